@@ -1,0 +1,139 @@
+//! The same calls in plain Rust: the same tests and the same arithmetic for each chip, over tables that lie in memory.
+
+use crate::{giving, refusing, rows, MqAnswer};
+
+static LONG: [u8; 7296] = rows::table(b"long ", 57);
+static SHORT: [u8; 3072] = rows::table(b"short ", 24);
+
+struct Code {
+    base: u32,
+    step: u32,
+    half: u32,
+    length: u32,
+}
+
+fn code_of(burst: u32) -> Code {
+    if burst == 2 {
+        return Code {
+            base: 3,
+            step: 64,
+            half: 32,
+            length: 256,
+        };
+    }
+    Code {
+        base: 8,
+        step: 57,
+        half: 28,
+        length: 512,
+    }
+}
+
+fn user_refusal(cell: u32, burst: u32, count: u32, user: u32) -> u32 {
+    if cell > 127 {
+        return 1;
+    }
+    if burst < 1 || burst > 3 {
+        return 2;
+    }
+    let base = code_of(burst).base;
+    if count != base && count != 2 * base {
+        return 3;
+    }
+    if user < 1 || user > count {
+        return 4;
+    }
+    0
+}
+
+fn shift(c: &Code, user: u32) -> u32 {
+    if user <= c.base {
+        return (c.base - user) * c.step;
+    }
+    if user < 2 * c.base {
+        return (2 * c.base - user - 1) * c.step + c.half;
+    }
+    (c.base - 1) * c.step + c.half
+}
+
+/// Element chip + by of row n of a table of rows of w bytes, as its power of j.
+fn element_in(t: &[u8], w: u32, n: u32, chip: u32, by: u32) -> u8 {
+    let i = chip + by;
+    let p = (i - 1) % (8 * w);
+    let b = t[(n * w + p / 8) as usize];
+    let bit = (b >> (7 - p % 8)) % 2;
+    ((i + 2 * (1 - bit as u32)) % 4) as u8
+}
+
+fn fill_from(t: &[u8], w: u32, n: u32, by: u32, count: usize, out: &mut [u8]) {
+    let mut i = 0;
+    while i < count {
+        out[i] = element_in(t, w, n, i as u32 + 1, by);
+        i += 1;
+    }
+}
+
+// Not inlined into the timing loop: the library's calls cannot be either.
+#[inline(never)]
+pub fn chip(cell: u32, burst: u32, count: u32, user: u32, chip: u32) -> MqAnswer {
+    let n = user_refusal(cell, burst, count, user);
+    if n != 0 {
+        return refusing(n);
+    }
+    let c = code_of(burst);
+    if chip < 1 || chip > c.length {
+        return refusing(10);
+    }
+    let by = shift(&c, user);
+    if burst == 2 {
+        return giving(element_in(&SHORT, 24, cell, chip, by) as u32);
+    }
+    giving(element_in(&LONG, 57, cell, chip, by) as u32)
+}
+
+#[inline(never)]
+pub fn midamble(cell: u32, burst: u32, count: u32, user: u32, out: &mut [u8]) -> MqAnswer {
+    whole(cell, burst, count, user, out, fill_from)
+}
+
+/// The other loop: the row as a slice of its own, and the bit added instead of tested.
+fn fill_without_branch(t: &[u8], w: u32, n: u32, by: u32, count: usize, out: &mut [u8]) {
+    let row = &t[(n * w) as usize..((n + 1) * w) as usize];
+    for (k, o) in out[..count].iter_mut().enumerate() {
+        let i = k as u32 + 1 + by;
+        let p = (i - 1) % (8 * w);
+        let bit = (row[(p / 8) as usize] as u32 >> (7 - p % 8)) % 2;
+        *o = ((i + 2 * (1 - bit)) % 4) as u8;
+    }
+}
+
+#[inline(never)]
+pub fn without_branch(cell: u32, burst: u32, count: u32, user: u32, out: &mut [u8]) -> MqAnswer {
+    whole(cell, burst, count, user, out, fill_without_branch)
+}
+
+#[inline(always)]
+fn whole(
+    cell: u32,
+    burst: u32,
+    count: u32,
+    user: u32,
+    out: &mut [u8],
+    fill: impl Fn(&[u8], u32, u32, u32, usize, &mut [u8]),
+) -> MqAnswer {
+    let n = user_refusal(cell, burst, count, user);
+    if n != 0 {
+        return refusing(n);
+    }
+    let c = code_of(burst);
+    if out.len() < c.length as usize {
+        return refusing(11);
+    }
+    let by = shift(&c, user);
+    if burst == 2 {
+        fill(&SHORT, 24, cell, by, 256, out);
+    } else {
+        fill(&LONG, 57, cell, by, 512, out);
+    }
+    giving(c.length)
+}

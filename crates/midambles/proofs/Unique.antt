@@ -1,0 +1,45 @@
+-- The two calls ask nothing, and no second reply or memory could satisfy their promises. `Pre` and `Post` are the contracts that rattle
+-- reads off the source: at arguments a, reply r and exit s. A weakened `ensures` fails here. Assumes nothing.
+use mathlib.Core.Path.{_≡_, sym, ap, _∙_}
+use mathlib.Core.List.{List}
+use Prim.Native.Nat.{ℕ}
+use native.Mathlib.Omega.{arith}
+use denote.Ref.{now}
+use Rattle.refusals.specs.Refusals.{Answer, _leaving_}
+use Rattle.midambles.specs.declared.ChipAnswer.{ChipAnswer}
+use Rattle.midambles.specs.declared.ChipAnswer.the-variants as chip
+use Rattle.midambles.specs.declared.MidambleAnswer.{MidambleAnswer}
+use Rattle.midambles.specs.declared.MidambleAnswer.the-variants as midamble
+use Rattle.midambles.specs.Calls.{saidOfChip, saidOfMidamble}
+use Rattle.midambles.proofs.midamble_chip.Reads as midamble-chip
+use Rattle.midambles.proofs.midamble.Reads as whole
+
+-- two answers that say the same are the same
+pub said-of-chip-once : (r r' : ChipAnswer) → saidOfChip r ≡ saidOfChip r' → r ≡ r'
+unfolding saidOfChip
+said-of-chip-once (chip.Refused n) (chip.Refused m) e = cc
+said-of-chip-once (chip.Power p) (chip.Power q) e = cc
+said-of-chip-once (chip.Refused n) (chip.Power q) e = let z : _≡_ {A = ℕ} 0 1 = cc in absurd (omega arith)
+said-of-chip-once (chip.Power p) (chip.Refused m) e = let z : _≡_ {A = ℕ} 0 1 = cc in absurd (omega arith)
+
+pub said-of-midamble-once : (r r' : MidambleAnswer) → saidOfMidamble r ≡ saidOfMidamble r' → r ≡ r'
+unfolding saidOfMidamble
+said-of-midamble-once (midamble.Refused n) (midamble.Refused m) e = cc
+said-of-midamble-once (midamble.Written p) (midamble.Written q) e = cc
+said-of-midamble-once (midamble.Refused n) (midamble.Written q) e = let z : _≡_ {A = ℕ} 0 1 = cc in absurd (omega arith)
+said-of-midamble-once (midamble.Written p) (midamble.Refused m) e = let z : _≡_ {A = ℕ} 0 1 = cc in absurd (omega arith)
+
+pub chip-asks-nothing : (κs : _) (a : _) → midamble-chip.Pre κs a
+chip-asks-nothing κs a = tt
+
+pub midamble-asks-nothing : (κs : _) (a : _) → whole.Pre κs a
+midamble-asks-nothing κs a = tt
+
+pub chip-unique : (κs : _) (a : _) (r r' : _) (s s' : _) → midamble-chip.Post κs a r s → midamble-chip.Post κs a r' s' → r ≡ r'
+chip-unique κs a r r' s s' p q = said-of-chip-once r r' (p ∙ sym q)
+
+pub midamble-unique : (κs : _) (a : _) (r r' : _) (s s' : _) → whole.Post κs a r s → whole.Post κs a r' s'
+    → (r ≡ r') × (now (s .1 .1 .1 .1 .0) ≡ now (s' .1 .1 .1 .1 .0))
+midamble-unique κs a r r' s s' p q =
+    let same : (saidOfMidamble r leaving now (s .1 .1 .1 .1 .0)) ≡ (saidOfMidamble r' leaving now (s' .1 .1 .1 .1 .0)) = p ∙ sym q in
+    (said-of-midamble-once r r' (cc), cc)

@@ -1,0 +1,13 @@
+-- `midambles::code::bad_user` meets its contract: its test is that of the definition.
+-- Assumes nothing.
+use mathlib.Core.Path.{refl}
+use Rattle.midambles.specs.Calls.{badUser}
+use Rattle.midambles.proofs.code.bad_user.Statement.{statement}
+use Rattle.midambles.proofs.code.bad_user.Tie as tie
+
+returns : tie.Need-returns
+unfolding badUser
+returns c = refl
+
+pub bad-user-spec : {M : Type 1} → statement M
+bad-user-spec = tie.close (tie.spec returns)

@@ -1,0 +1,52 @@
+-- `midambles::reading::fill_chips` meets its contract: the burst type picks the table, and reading it is reading the row.
+-- Assumes nothing.
+use native.Mathlib.Omega.{arith}
+use Rattle.midambles.proofs.Rows.{short-holds, long-holds, filled}
+use borrow.Author.Needs.{needs}
+use Rattle.midambles.proofs.reading.fill_chips.Statement.{statement}
+use Rattle.midambles.proofs.reading.fill_chips.Tie as tie
+
+short-table-requires : tie.Need-short-table-requires
+short-table-requires c κs = search needs
+
+slice-aggregate-fill-from : tie.Need-slice-aggregate-fill-from
+slice-aggregate-fill-from c = search needs
+
+fill-from-requires : tie.Need-fill-from-requires
+fill-from-requires c κs = (search needs, omega (arith, (short-holds _ _ (c .before .before .before .if1 .taken) (c .before .before .short-table .ensures)) .chips))
+
+same-length : tie.Need-same-length
+same-length c = search needs
+
+returns : tie.Need-returns
+returns c = filled _ _ _ _ (short-holds _ _ (c .before .before .before .before .before .before .if1 .taken) (c .before .before .before .before .before .short-table .ensures)) _ (c .before .before .before .before .before .before .before .before .pre .0) _ _ _ (c .before .before .fill-from .ensures)
+
+long-table-requires : tie.Need-long-table-requires
+long-table-requires c κs = search needs
+
+slice-aggregate-fill-from-2 : tie.Need-slice-aggregate-fill-from-2
+slice-aggregate-fill-from-2 c = search needs
+
+fill-from-requires-2 : tie.Need-fill-from-requires-2
+fill-from-requires-2 c κs = (search needs, omega (arith, (long-holds _ _ (c .before .before .before .if1 .left) (c .before .before .long-table .ensures)) .chips))
+
+same-length-2 : tie.Need-same-length-2
+same-length-2 c = search needs
+
+returns-2 : tie.Need-returns-2
+returns-2 c = filled _ _ _ _ (long-holds _ _ (c .before .before .before .before .before .before .if1 .left) (c .before .before .before .before .before .long-table .ensures)) _ (c .before .before .before .before .before .before .before .before .pre .0) _ _ _ (c .before .before .fill-from2 .ensures)
+
+pub fill-chips-spec : {M : Type 1} → statement M
+fill-chips-spec =
+    tie.close
+    (tie.spec
+    short-table-requires
+    slice-aggregate-fill-from
+    fill-from-requires
+    same-length
+    returns
+    long-table-requires
+    slice-aggregate-fill-from-2
+    fill-from-requires-2
+    same-length-2
+    returns-2)

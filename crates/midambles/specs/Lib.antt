@@ -1,0 +1,3 @@
+pub mod TrainingSequences
+pub mod Calls
+pub mod Inside

@@ -1,0 +1,93 @@
+-- Which refusal of a table is the first, and what that makes of the answer and of what was lent. Cited by every call's proof.
+-- Assumes nothing.
+use mathlib.Core.Path.{_≡_, refl, sym, ap, _∙_}
+use mathlib.Core.Bool.{Bool, true, false, cond, _&&_}
+use mathlib.Core.List.{[], _∷_, _++_}
+use Prim.Native.Nat.{ℕ, suc}
+use native.Mathlib.Omega.{arith}
+use lib.Dec.{T, ltb, ltb→lt}
+use borrow.Author.Tests.{eq-eqb, ne-eqb}
+use Rattle.laws.proofs.Bools.{true-false, T-and-left, T-and-right}
+use Rattle.refusals.specs.Refusals.{refused, answered, Refusals, firstOf, answer, after}
+use Rattle.refusals.specs.Inside.{orRefused, rowByRow}
+
+-- the condition holds: its number is given
+pub first-holds : (n : ℕ) (b : Bool) (rest : Refusals) → b ≡ true → firstOf ((n, b) ∷ rest) ≡ n
+unfolding firstOf
+first-holds n true rest e = refl
+first-holds n false rest e = true-false (sym e)
+
+-- it does not: the rest decides
+pub first-passes : (n : ℕ) (b : Bool) (rest : Refusals) → b ≡ false → firstOf ((n, b) ∷ rest) ≡ firstOf rest
+unfolding firstOf
+first-passes n false rest e = refl
+first-passes n true rest e = true-false e
+
+-- a table of which no refusal was given: its first condition does not hold, and of the rest none was given
+pub first-none : (n : ℕ) (b : Bool) (rest : Refusals) → firstOf ((suc n, b) ∷ rest) ≡ 0 → (b ≡ false) × (firstOf rest ≡ 0)
+unfolding firstOf
+first-none n false rest e = (refl, e)
+first-none n true rest e = absurd (omega arith)
+
+-- no row of a table has the number 0
+abbrev pub numbered : Refusals → Bool
+numbered [] = true
+numbered (row ∷ rest) = ltb 0 (row .0) && numbered rest
+
+not-zero : (n : ℕ) (rest : Refusals) → T (ltb 0 n && numbered rest) → n ≡ 0 → ⊥
+not-zero n rest k z = let l = ltb→lt 0 n (T-and-left (ltb 0 n) (numbered rest) k) in omega arith
+
+-- a refusal that was given stays
+given-stays : (n m : ℕ) (b : Bool) → (n ≡ 0 → ⊥) → orRefused n m b ≡ n
+unfolding orRefused
+given-stays n m b h = simp (ne-eqb n 0 h)
+
+rows-stay : (n : ℕ) (t : Refusals) → (n ≡ 0 → ⊥) → rowByRow n t ≡ n
+unfolding rowByRow
+rows-stay n [] h = refl
+rows-stay n (row ∷ rest) h = ap (λ (k : ℕ). rowByRow k rest) (given-stays n (row .0) (row .1) h) ∙ rows-stay n rest h
+
+-- a table read row by row gives its first refusal
+pub first-row-by-row : (t : Refusals) → T (numbered t) → rowByRow 0 t ≡ firstOf t
+unfolding rowByRow orRefused firstOf
+first-row-by-row [] k = refl
+first-row-by-row ((n, true) ∷ rest) k = rows-stay n rest (not-zero n rest k)
+first-row-by-row ((n, false) ∷ rest) k = first-row-by-row rest (T-and-right (ltb 0 n) (numbered rest) k)
+
+-- a longer table: a refusal of the first part stays
+pub append-refused : (t u : Refusals) → (firstOf t ≡ 0 → ⊥) → firstOf (t ++ u) ≡ firstOf t
+unfolding firstOf
+append-refused [] u h = absurd (h refl)
+append-refused ((n, true) ∷ t) u h = refl
+append-refused ((n, false) ∷ t) u h = append-refused t u h
+
+-- a table with one row behind it
+pub append-row : (t : Refusals) (m : ℕ) (b : Bool) → T (numbered t) → orRefused (firstOf t) m b ≡ firstOf (t ++ ((m, b) ∷ []))
+unfolding firstOf orRefused
+append-row [] m b k = refl
+append-row ((n, true) ∷ rest) m b k = given-stays n m b (not-zero n rest k)
+append-row ((n, false) ∷ rest) m b k = append-row rest m b (T-and-right (ltb 0 n) (numbered rest) k)
+
+-- no refusal of such a table was given: none of the table, nor the row's
+pub append-none : (t : Refusals) (m : ℕ) (b : Bool) → T (numbered t) → firstOf (t ++ ((suc m, b) ∷ [])) ≡ 0 → (firstOf t ≡ 0) × (b ≡ false)
+unfolding firstOf
+append-none [] m b k e = (refl, first-none m b [] e .0)
+append-none ((n, true) ∷ rest) m b k e = absurd (not-zero n rest k e)
+append-none ((n, false) ∷ rest) m b k e = append-none rest m b (T-and-right (ltb 0 n) (numbered rest) k) e
+
+-- an answer, and what was lent, by the first refusal's number
+pub answer-refused : {A : Type 0} (n : ℕ) (value : A) → (n ≡ 0 → ⊥) → answer n value ≡ refused n
+unfolding answer
+answer-refused n value h = simp (ne-eqb n 0 h)
+
+pub answer-answered : {A : Type 0} (n : ℕ) (value : A) → n ≡ 0 → answer n value ≡ answered value
+unfolding answer
+answer-answered n value e = simp (eq-eqb n 0 e)
+
+pub after-refused : {M : Type 0} (n : ℕ) (before made : M) → (n ≡ 0 → ⊥) → after n before made ≡ before
+unfolding after
+after-refused n before made h = simp (ne-eqb n 0 h)
+
+pub after-answered : {M : Type 0} (n : ℕ) (before made : M) → n ≡ 0 → after n before made ≡ made
+unfolding after
+after-answered n before made e = simp (eq-eqb n 0 e)

@@ -1,0 +1,3 @@
+pub mod LongText
+pub mod ShortText
+pub mod Rows

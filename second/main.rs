@@ -1,0 +1,113 @@
+//! The second, independent program: plain Rust, standard library only, written from document 01 (docs/01-scope.md of the
+//! order) and the line format of docs/COMPARISON.md, without sight of the proved library. It prints what the proved
+//! library's own programs print, and `./test` compares the two byte by byte.
+//!
+//! The rules stand here as naively as they stand in document 01; a module is a chapter of it.
+//!
+//! Build: `rustc --edition 2021 -O second/main.rs -o second-program`
+
+mod beacons;
+mod digest;
+mod midambles;
+mod paging;
+mod refusals;
+mod rows;
+mod selftest;
+mod timeslots;
+
+use std::env;
+use std::fs;
+use std::io::{self, BufWriter, Write};
+use std::process::ExitCode;
+
+const USAGE: &str = "\
+second: the independent program that the proved library is compared with
+
+  second midambles              the section `midambles` of docs/COMPARISON.md
+  second timeslots              the section `timeslots`
+  second beacons                the section `beacons`
+  second paging                 the section `paging`
+  second rows-from SOURCE_FILE  the rows read from the scanned source 004, as in second/rows-004.txt
+  second selftest               document 01's figures to check; exit 1 if one is wrong
+  second --help                 this page
+";
+
+/// Why a run failed.
+enum Failure {
+    /// The words on the command line are wrong: exit 2.
+    Words(String),
+    /// The work went wrong: exit 1.
+    Work(String),
+}
+
+impl From<io::Error> for Failure {
+    fn from(error: io::Error) -> Failure {
+        Failure::Work(format!("standard output: {error}"))
+    }
+}
+
+fn main() -> ExitCode {
+    let words: Vec<String> = env::args_os()
+        .skip(1)
+        .map(|word| word.to_string_lossy().into_owned())
+        .collect();
+    let words: Vec<&str> = words.iter().map(String::as_str).collect();
+    let (message, code) = match run(&words) {
+        Ok(()) => return ExitCode::SUCCESS,
+        Err(Failure::Words(message)) => {
+            (format!("{message}; `second --help` lists the commands"), 2)
+        }
+        Err(Failure::Work(message)) => (message, 1),
+    };
+    eprintln!("second: {message}");
+    ExitCode::from(code)
+}
+
+/// Does what the words ask, to standard output.
+fn run(words: &[&str]) -> Result<(), Failure> {
+    let mut out = BufWriter::new(io::stdout().lock());
+    match words {
+        [] | ["--help"] => out.write_all(USAGE.as_bytes())?,
+        ["midambles"] => midambles::print(&mut out, &kept_rows()?)?,
+        ["timeslots"] => timeslots::print(&mut out)?,
+        ["beacons"] => beacons::print(&mut out)?,
+        ["paging"] => paging::print(&mut out)?,
+        ["rows-from", source] => out.write_all(rows_from(source)?.as_bytes())?,
+        ["rows-from", ..] => {
+            return Err(Failure::Words(
+                "rows-from takes one word, the source file".to_string(),
+            ))
+        }
+        ["selftest"] => {
+            let all_right = selftest::print(&mut out, &kept_rows()?)?;
+            out.flush()?;
+            if !all_right {
+                return Err(Failure::Work(
+                    "a figure of document 01 is not met".to_string(),
+                ));
+            }
+        }
+        ["--help" | "midambles" | "timeslots" | "beacons" | "paging" | "selftest", ..] => {
+            return Err(Failure::Words(format!(
+                "{} takes no further word",
+                words[0]
+            )));
+        }
+        [unknown, ..] => return Err(Failure::Words(format!("unknown command {unknown:?}"))),
+    }
+    out.flush()?;
+    Ok(())
+}
+
+/// The rows of `rows-004.txt`.
+fn kept_rows() -> Result<rows::Rows, Failure> {
+    rows::kept().map_err(|damage| Failure::Work(format!("rows-004.txt is damaged:\n{damage}")))
+}
+
+/// The rows of a source file, as text.
+fn rows_from(source: &str) -> Result<String, Failure> {
+    let bytes = fs::read(source).map_err(|error| Failure::Work(format!("{source}: {error}")))?;
+    let rows = rows::from_source(&String::from_utf8_lossy(&bytes))
+        .map_err(|damage| Failure::Work(format!("{source} has damaged rows:\n{damage}")))?;
+    Ok(rows::as_text(&rows))
+}

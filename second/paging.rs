@@ -238,10 +238,10 @@ fn print_owners(out: &mut dyn Write) -> io::Result<()> {
     print_owner(out, 1, 2, u32::MAX)
 }
 
-/// docs/COMPARISON.md, `paging` 3: setting q is (q * q + 3 * q + L) mod 3.
+/// docs/COMPARISON.md, `paging` 3: setting q is ((q * q + q * L) div 3) mod 3.
 fn settings(count: usize, indicator_length: u32) -> Vec<u8> {
     (0..count)
-        .map(|q| ((q * q + 3 * q + indicator_length as usize) % 3) as u8)
+        .map(|q| ((q * q + q * indicator_length as usize) / 3 % 3) as u8)
         .collect()
 }
 

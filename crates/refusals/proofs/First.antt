@@ -61,6 +61,20 @@ append-refused [] u h = absurd (h refl)
 append-refused ((n, true) ∷ t) u h = refl
 append-refused ((n, false) ∷ t) u h = append-refused t u h
 
+-- a table whose first part was read, and then the rest row by row
+pub append-rows : (t u : Refusals) → T (numbered t) → T (numbered u) → rowByRow (firstOf t) u ≡ firstOf (t ++ u)
+unfolding firstOf
+append-rows [] u k l = first-row-by-row u l
+append-rows ((n, true) ∷ t) u k l = rows-stay n u (not-zero n t k)
+append-rows ((n, false) ∷ t) u k l = append-rows t u (T-and-right (ltb 0 n) (numbered t) k) l
+
+-- no refusal of the first part was given: the rest decides
+pub append-passes : (t u : Refusals) → T (numbered t) → firstOf t ≡ 0 → firstOf (t ++ u) ≡ firstOf u
+unfolding firstOf
+append-passes [] u k z = refl
+append-passes ((n, true) ∷ t) u k z = absurd (not-zero n t k z)
+append-passes ((n, false) ∷ t) u k z = append-passes t u (T-and-right (ltb 0 n) (numbered t) k) z
+
 -- a table with one row behind it
 pub append-row : (t : Refusals) (m : ℕ) (b : Bool) → T (numbered t) → orRefused (firstOf t) m b ≡ firstOf (t ++ ((m, b) ∷ []))
 unfolding firstOf orRefused

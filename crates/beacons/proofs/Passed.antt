@@ -1,0 +1,84 @@
+-- What condition 9 leaves of a case and its k, and that `isBeacon` asks for one of the listed timeslots. Cited by `beacon`'s proof, and for the class book.
+-- Assumes nothing.
+use mathlib.Core.Path.{_≡_, refl, sym, subst}
+use mathlib.Core.Bool.{Bool, true, false, not, _&&_, _||_}
+use mathlib.Core.List.{List, [], _∷_}
+use mathlib.Core.Logic.{_⊎_, inl, inr, ⊎-elim}
+use Prim.Native.Nat.{ℕ, _+_, _≤_}
+use native.Mathlib.Omega.{arith}
+use lib.Dec.{eqb, ltb}
+use borrow.Author.Tests.{eqb-true, eqb-false, ltb-false, ne-eqb}
+use Rattle.laws.proofs.Bools.{true-false, or-false}
+use Rattle.beacons.specs.Beacons.{beaconsOf, badBeacon, isBeacon}
+
+-- a test is true or false
+decided : (b : Bool) → (b ≡ true) ⊎ (b ≡ false)
+decided true = inl refl
+decided false = inr refl
+
+equal-or-not : (m n : ℕ) → (m ≡ n) ⊎ (m ≡ n → ⊥)
+equal-or-not m n = ⊎-elim (λ e. inl (eqb-true m n e)) (λ e. inr (eqb-false m n e)) (decided (eqb m n))
+
+-- condition 9 in case 1, and in any other
+pub passed-one : (k : ℕ) → badBeacon 1 k ≡ false → k ≤ 14
+unfolding badBeacon
+passed-one k e = ltb-false 14 k (or-false _ _ e .0)
+
+other-tests : (b h : Bool) → (not b || false || (b && h)) ≡ false → (b ≡ true) × (h ≡ false)
+other-tests true false e = (refl, refl)
+other-tests true true e = true-false e
+other-tests false h e = true-false e
+
+pub passed-two : (case k : ℕ) → badBeacon case k ≡ false → (case ≡ 1 → ⊥) → (case ≡ 2) × (k ≤ 6)
+unfolding badBeacon
+passed-two case k e h =
+    let p = other-tests (eqb case 2) (ltb 6 k) (simp (ne-eqb case 1 h) at e) in (eqb-true case 2 (p .0), ltb-false 6 k (p .1))
+
+-- a case and k that are not refused are one of the two
+pub passed : (case k : ℕ) → badBeacon case k ≡ false → ((case ≡ 1) × (k ≤ 14)) ⊎ ((case ≡ 2) × (k ≤ 6))
+passed case k e =
+    ⊎-elim (λ q. inl (q, passed-one k (subst (λ (n : ℕ). badBeacon n k ≡ false) q e))) (λ h. inr (passed-two case k e h)) (equal-or-not case 1)
+
+-- whether t stands in a list
+unfoldable pub among : ℕ → List ℕ → Bool
+among t [] = false
+among t (x ∷ l) = eqb t x || among t l
+
+regroup : (a b : Bool) → (a || b) ≡ (a || (b || false))
+regroup true b = refl
+regroup false true = refl
+regroup false false = refl
+
+listed-one : (k t : ℕ) → isBeacon 1 k t ≡ among t (beaconsOf 1 k)
+unfolding isBeacon among beaconsOf
+listed-one k t = refl
+
+listed-two : (k t : ℕ) → isBeacon 2 k t ≡ among t (beaconsOf 2 k)
+unfolding isBeacon among beaconsOf
+listed-two k t = regroup (eqb t k) (eqb t (k + 8))
+
+listed-none : (case k t : ℕ) → (case ≡ 1 → ⊥) → (case ≡ 2 → ⊥) → isBeacon case k t ≡ among t (beaconsOf case k)
+unfolding isBeacon among beaconsOf
+listed-none case k t g h = simp (ne-eqb case 1 g, ne-eqb case 2 h)
+
+-- `isBeacon` asks for one of the timeslots that the call answers
+pub is-beacon-listed : (case k t : ℕ) → isBeacon case k t ≡ among t (beaconsOf case k)
+is-beacon-listed case k t =
+    ⊎-elim (λ e. subst (λ (n : ℕ). isBeacon n k t ≡ among t (beaconsOf n k)) (sym e) (listed-one k t))
+    (λ g. ⊎-elim (λ e. subst (λ (n : ℕ). isBeacon n k t ≡ among t (beaconsOf n k)) (sym e) (listed-two k t)) (λ h. listed-none case k t g h) (equal-or-not case 2))
+    (equal-or-not case 1)
+
+-- a beacon timeslot of a case and k that are not refused is a timeslot
+within-one : (k t : ℕ) → k ≤ 14 → isBeacon 1 k t ≡ true → t ≤ 14
+unfolding isBeacon
+within-one k t h e = ⊎-elim (λ q. omega (arith, eqb-true t k q)) (λ (q : eqb t k ≡ false). true-false (sym (simp q at e))) (decided (eqb t k))
+
+within-two : (k t : ℕ) → k ≤ 6 → isBeacon 2 k t ≡ true → t ≤ 14
+unfolding isBeacon
+within-two k t h e = ⊎-elim (λ q. omega (arith, eqb-true t k q)) (λ q. omega (arith, eqb-true t (k + 8) (simp q at e))) (decided (eqb t k))
+
+pub is-beacon-within : (case k t : ℕ) → badBeacon case k ≡ false → isBeacon case k t ≡ true → t ≤ 14
+is-beacon-within case k t e b =
+    ⊎-elim (λ p. within-one k t (p .1) (subst (λ (n : ℕ). isBeacon n k t ≡ true) (p .0) b))
+    (λ p. within-two k t (p .1) (subst (λ (n : ℕ). isBeacon n k t ≡ true) (p .0) b))
+    (passed case k e)

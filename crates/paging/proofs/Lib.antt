@@ -1,0 +1,12 @@
+pub mod OneRun
+pub mod Tally
+pub mod Counted
+pub mod Heard
+pub mod Rows
+pub mod Chain
+pub mod Passed
+pub mod Places
+pub mod Owners
+pub mod Readings
+pub mod Flips
+pub mod Unique

@@ -1,0 +1,62 @@
+-- What a call knows once none of the first refusals holds: the length is 2, 4 or 8, and runs of it fill a half. Cited by the four calls' proofs.
+-- Assumes nothing.
+use mathlib.Core.Path.{_≡_, refl, sym, subst}
+use mathlib.Core.Bool.{Bool, true, false, cond, not, _||_}
+use mathlib.Core.List.{[], _∷_, map}
+use mathlib.Core.Logic.{_⊎_, inl, inr, ⊎-elim}
+use Prim.Native.Nat.{ℕ, _*_, _/_, _≤_}
+use lib.Dec.{T, eqb, leb, leb→le, eqb→eq}
+use borrow.Author.Tests.{eqb-true}
+use Rattle.laws.proofs.Bools.{true-false, or-false}
+use Rattle.refusals.specs.Refusals.{firstOf}
+use Rattle.paging.specs.Paging.{carryingOf, halfOf, perFrame}
+use Rattle.paging.specs.Calls.{badPich, pichRefusals}
+use Rattle.paging.specs.Inside.{Fits}
+use Rattle.paging.proofs.Chain.{none-first}
+
+-- runs of length L in a half of H bits, each condition a computed test
+fit : (L H : ℕ) → T (leb 1 L) → T (leb L 8) → T (leb H 136) → T (leb 1 (H / L)) → T (leb (H / L) 68) → T (eqb (H / L * L) H) → Fits L H
+fit L H a b c d e f =
+    record {
+      length-low = leb→le 1 L a;
+      length-high = leb→le L 8 b;
+      half-high = leb→le H 136 c;
+      number-low = leb→le 1 (H / L) d;
+      number-high = leb→le (H / L) 68 e;
+      whole = eqb→eq (H / L * L) H f;
+    }
+
+-- what holds of half of 240 and of half of 272 holds of each type's half
+pick-half : (P : ℕ → Type 0) → P 120 → P 136 → (b : Bool) → P (cond b 240 272 / 2)
+pick-half P x y true = x
+pick-half P x y false = y
+
+of-halves : (P : ℕ → Type 0) → P 120 → P 136 → (burst : ℕ) → P (halfOf burst)
+unfolding halfOf carryingOf
+of-halves P x y burst = pick-half P x y (eqb burst 1)
+
+pub half-high : (burst : ℕ) → halfOf burst ≤ 136
+half-high burst = of-halves (λ H. H ≤ 136) (leb→le 120 136 tt) (leb→le 136 136 tt) burst
+
+three : (a b c : Bool) → not (a || b || c) ≡ false → (a ≡ true) ⊎ ((b ≡ true) ⊎ (c ≡ true))
+three true b c e = inl refl
+three false true c e = inr (inl refl)
+three false false true e = inr (inr refl)
+three false false false e = true-false e
+
+fits-length : (burst L : ℕ) → badPich burst L ≡ false → Fits L (halfOf burst)
+unfolding badPich
+fits-length burst L e =
+    let at : (l : ℕ) → Fits l 120 → Fits l 136 → eqb L l ≡ true → Fits L (halfOf burst) =
+    λ l x y q. subst (λ (n : ℕ). Fits n (halfOf burst)) (sym (eqb-true L l q)) (of-halves (λ H. Fits l H) x y burst) in
+    ⊎-elim (at 2 (fit 2 120 tt tt tt tt tt tt) (fit 2 136 tt tt tt tt tt tt))
+    (λ r. ⊎-elim (at 4 (fit 4 120 tt tt tt tt tt tt) (fit 4 136 tt tt tt tt tt tt)) (at 8 (fit 8 120 tt tt tt tt tt tt) (fit 8 136 tt tt tt tt tt tt)) r)
+    (three (eqb L 2) (eqb L 4) (eqb L 8) (or-false (eqb burst 3) (not (eqb L 2 || eqb L 4 || eqb L 8)) e .1))
+
+pub fits : (burst L : ℕ) → firstOf (pichRefusals burst L) ≡ 0 → Fits L (halfOf burst)
+fits burst L e = fits-length burst L (none-first burst L e .1)
+
+-- "a timeslot holds 60, 30, 15 (type 1) or 68, 34, 17 (type 2) for L = 2, 4, 8"
+pub per-frame-table : map (λ (burst : ℕ). map (λ (L : ℕ). perFrame L (halfOf burst)) (2 ∷ 4 ∷ 8 ∷ [])) (1 ∷ 2 ∷ []) ≡ (60 ∷ 30 ∷ 15 ∷ []) ∷ (68 ∷ 34 ∷ 17 ∷ []) ∷ []
+unfolding halfOf carryingOf
+per-frame-table = refl

@@ -1,0 +1,3 @@
+pub mod Paging
+pub mod Calls
+pub mod Inside

@@ -1,0 +1,64 @@
+-- What the two definitions `partsAnswer` and `atAnswer` come to: the parts' refusals, then 10, then what lies at the chip.
+-- Cited by the proofs of `parts` and `at`, and by proofs/Agree.antt. Assumes nothing.
+use mathlib.Core.Path.{_≡_, refl, sym, _∙_}
+use mathlib.Core.Bool.{Bool, true, false, cond, _&&_}
+use mathlib.Core.List.{[], _∷_, _++_}
+use Prim.Native.Nat.{ℕ, _<_, _≤_}
+use native.Mathlib.Omega.{arith}
+use lib.Dec.{T, eqb, ltb, ltb→lt}
+use borrow.Author.Tests.{lt-ltb, le-ltb, eqb-true}
+use Rattle.refusals.specs.Refusals.{refused, answered, Refusals, firstOf, answer}
+use Rattle.refusals.proofs.First.{first-holds, first-passes, append-refused, append-passes, answer-refused, answer-answered}
+use Rattle.timeslots.specs.declared.Direction.{Direction}
+use Rattle.timeslots.specs.Conditions.{badChip}
+use Rattle.timeslots.specs.Timeslots.{partLengths, units, lies, SevenParts, sevenParts}
+use Rattle.timeslots.specs.Calls.{partsRefusals, atRefusals, partsAnswer, atAnswer}
+
+-- a call that answered was not refused, and answered what it should
+pub answer-given : {A : Type 0} (n : ℕ) (value given : A) → answer n value ≡ answered given → (n ≡ 0) × (value ≡ given)
+unfolding answer
+answer-given n value given = by (eqb n 0) refl
+  where
+    by : (b : Bool) → eqb n 0 ≡ b → cond b (answered value) (refused n) ≡ answered given → (n ≡ 0) × (value ≡ given)
+    by true t e = (eqb-true n 0 t, cc)
+    by false t e = let z : _≡_ {A = ℕ} 0 1 = cc in absurd (omega arith)
+
+module _ (burst : ℕ) (direction : Direction) (factor tfci tpc : ℕ) where
+  pub parts-refused : (n : ℕ) → n ≡ firstOf (partsRefusals burst direction factor tfci tpc) → (n ≡ 0 → ⊥)
+      → partsAnswer burst direction factor tfci tpc ≡ refused n
+  unfolding partsAnswer
+  parts-refused n e h = rw (← e) (answer-refused n _ h)
+
+  pub parts-answered : firstOf (partsRefusals burst direction factor tfci tpc) ≡ 0
+      → partsAnswer burst direction factor tfci tpc ≡ answered (sevenParts (partLengths burst direction factor tfci tpc) factor)
+  unfolding partsAnswer
+  parts-answered z = answer-answered _ _ z
+
+  pub parts-given : (given : SevenParts) → partsAnswer burst direction factor tfci tpc ≡ answered given
+      → (firstOf (partsRefusals burst direction factor tfci tpc) ≡ 0) × (sevenParts (partLengths burst direction factor tfci tpc) factor ≡ given)
+  unfolding partsAnswer
+  parts-given given e = answer-given _ _ _ e
+
+  pub at-refused : (chip n : ℕ) → n ≡ firstOf (partsRefusals burst direction factor tfci tpc) → (n ≡ 0 → ⊥)
+      → atAnswer burst direction factor tfci tpc chip ≡ refused n
+  unfolding atAnswer atRefusals
+  at-refused chip n e h =
+      let first = append-refused (partsRefusals burst direction factor tfci tpc) ((10, badChip chip) ∷ []) (λ z. h (e ∙ z)) ∙ sym e in
+      rw first (answer-refused n _ h)
+
+  last : (chip : ℕ) → firstOf (partsRefusals burst direction factor tfci tpc) ≡ 0
+      → firstOf (atRefusals burst direction factor tfci tpc chip) ≡ firstOf ((10, badChip chip) ∷ [])
+  unfolding atRefusals partsRefusals
+  last chip z = append-passes (partsRefusals burst direction factor tfci tpc) _ tt z
+
+  pub at-beyond : (chip : ℕ) → firstOf (partsRefusals burst direction factor tfci tpc) ≡ 0 → 2559 < chip
+      → atAnswer burst direction factor tfci tpc chip ≡ refused 10
+  unfolding atAnswer badChip
+  at-beyond chip z h =
+      let first = last chip z ∙ first-holds 10 _ _ (lt-ltb 2559 chip h) in
+      rw first (answer-refused 10 _ (λ e. omega arith))
+
+  pub at-answered : (chip : ℕ) → firstOf (partsRefusals burst direction factor tfci tpc) ≡ 0 → chip ≤ 2559
+      → atAnswer burst direction factor tfci tpc chip ≡ answered (lies (partLengths burst direction factor tfci tpc) (units direction factor) chip)
+  unfolding atAnswer badChip firstOf
+  at-answered chip z h = answer-answered _ _ (last chip z ∙ first-passes 10 _ [] (le-ltb 2559 chip h))

@@ -1,0 +1,3 @@
+pub mod Timeslots
+pub mod Conditions
+pub mod Calls

@@ -1,2 +1,5 @@
 pub mod Runs
 pub mod Bools
+pub mod Lists
+pub mod Rows
+pub mod Places

@@ -1,10 +1,9 @@
 -- What each `return` of the two calls answers, over plain values. Cited by the proofs of midamble_chip and midamble.
 -- Assumes nothing.
-use mathlib.Core.Path.{_≡_, refl, sym, ap, _∙_}
-use mathlib.Core.Bool.{Bool, false, _||_}
+use mathlib.Core.Path.{_≡_, sym, ap, _∙_}
+use mathlib.Core.Bool.{false, _||_}
 use mathlib.Core.List.{List, [], _++_}
-use Prim.Native.Nat.{ℕ, _+_, _<_, _≤_}
-use native.Mathlib.Omega.{arith}
+use Prim.Native.Nat.{ℕ, _+_, _≤_}
 use lib.Dec.{T, ltb}
 use lib.ListN.{length, getD, drop}
 use borrow.Author.Tests.{ltb-false}

@@ -1,13 +1,13 @@
 -- What both codes share, how far a shift goes, and what a call knows whose user was not refused.
 -- Assumes nothing.
-use mathlib.Core.Path.{_≡_, refl, sym, ap, _∙_, subst}
-use mathlib.Core.Bool.{Bool, true, false, cond, not, _||_}
-use mathlib.Core.List.{[], _∷_}
-use Prim.Native.Nat.{ℕ, zero, suc, _+_, _-_, _*_, _<_, _≤_}
+use mathlib.Core.Path.{_≡_, refl, sym, subst}
+use mathlib.Core.Bool.{Bool, true, false, cond, _||_}
+use mathlib.Core.List.{[]}
+use Prim.Native.Nat.{ℕ, _+_, _-_, _*_, _<_, _≤_}
 use native.Mathlib.Nat.{mul-le-mul-right, mul-le-mul}
 use native.Mathlib.Omega.{arith}
 use lib.Dec.{eqb, ltb, leb, lit≤}
-use borrow.Author.Tests.{ltb-false, leb-true, leb-false, eqb-true, not-false}
+use borrow.Author.Tests.{ltb-false, leb-false, eqb-true, not-false}
 use Rattle.laws.proofs.Bools.{or-false}
 use Rattle.refusals.specs.Refusals.{firstOf, badType}
 use Rattle.refusals.proofs.First.{first-none}

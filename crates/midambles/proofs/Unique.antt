@@ -1,11 +1,10 @@
 -- The two calls ask nothing, and no second reply or memory could satisfy their promises. `Pre` and `Post` are the contracts that rattle
 -- reads off the source: at arguments a, reply r and exit s. A weakened `ensures` fails here. Assumes nothing.
-use mathlib.Core.Path.{_≡_, sym, ap, _∙_}
-use mathlib.Core.List.{List}
+use mathlib.Core.Path.{_≡_, sym, _∙_}
 use Prim.Native.Nat.{ℕ}
 use native.Mathlib.Omega.{arith}
 use denote.Ref.{now}
-use Rattle.refusals.specs.Refusals.{Answer, _leaving_}
+use Rattle.refusals.specs.Refusals.{_leaving_}
 use Rattle.midambles.specs.declared.ChipAnswer.{ChipAnswer}
 use Rattle.midambles.specs.declared.ChipAnswer.the-variants as chip
 use Rattle.midambles.specs.declared.MidambleAnswer.{MidambleAnswer}

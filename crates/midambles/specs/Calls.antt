@@ -1,6 +1,6 @@
 -- What the two calls of document 01's "Training sequences" answer, for all inputs: their refusals, what their enums say, their outcomes.
 -- Cited by the promises of midamble_chip and midamble. Assumes nothing.
-use mathlib.Core.Bool.{Bool, not, _&&_, _||_}
+use mathlib.Core.Bool.{Bool, not, _||_}
 use mathlib.Core.List.{List, [], _∷_, _++_}
 use Prim.Native.Nat.{ℕ, _*_}
 use lib.Dec.{eqb, ltb}

@@ -2,6 +2,8 @@
 mod code;
 mod reading;
 
+pub use code::bad_cell;
+pub use code::bad_count;
 use code::code_of;
 use code::shift;
 use code::user_refusal;

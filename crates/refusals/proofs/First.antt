@@ -1,7 +1,7 @@
 -- Which refusal of a table is the first, and what that makes of the answer and of what was lent. Cited by every call's proof.
 -- Assumes nothing.
 use mathlib.Core.Path.{_≡_, refl, sym, ap, _∙_}
-use mathlib.Core.Bool.{Bool, true, false, cond, _&&_}
+use mathlib.Core.Bool.{Bool, true, false, _&&_}
 use mathlib.Core.List.{[], _∷_, _++_}
 use Prim.Native.Nat.{ℕ, suc}
 use native.Mathlib.Omega.{arith}
@@ -74,6 +74,13 @@ unfolding firstOf
 append-passes [] u k z = refl
 append-passes ((n, true) ∷ t) u k z = absurd (not-zero n t k z)
 append-passes ((n, false) ∷ t) u k z = append-passes t u (T-and-right (ltb 0 n) (numbered t) k) z
+
+-- no refusal of a longer table was given: none of its first part
+pub append-front : (t u : Refusals) → T (numbered t) → firstOf (t ++ u) ≡ 0 → firstOf t ≡ 0
+unfolding firstOf
+append-front [] u k z = refl
+append-front ((n, true) ∷ t) u k z = absurd (not-zero n t k z)
+append-front ((n, false) ∷ t) u k z = append-front t u (T-and-right (ltb 0 n) (numbered t) k) z
 
 -- a table with one row behind it
 pub append-row : (t : Refusals) (m : ℕ) (b : Bool) → T (numbered t) → orRefused (firstOf t) m b ≡ firstOf (t ++ ((m, b) ∷ []))

@@ -1,7 +1,7 @@
 -- Document 01, "Training sequences": "every row has its digit count and no two rows of a table are equal". One computed test for each table.
 -- Assumes nothing.
 use mathlib.Core.Path.{_≡_, refl, sym, ap, _∙_, subst}
-use mathlib.Core.Bool.{Bool, true, false, not, _&&_, _||_}
+use mathlib.Core.Bool.{Bool, true, not, _&&_, _||_}
 use mathlib.Core.List.{List, [], _∷_, map}
 use Prim.Native.Nat.{ℕ, zero, suc, _+_, _*_, _<_}
 use Prim.Native.String.{String, [] as nil, _∷_ as _then_}

@@ -1,13 +1,13 @@
 -- What the two definitions `partsAnswer` and `atAnswer` come to: the parts' refusals, then 10, then what lies at the chip.
 -- Cited by the proofs of `parts` and `at`, and by proofs/Agree.antt. Assumes nothing.
 use mathlib.Core.Path.{_≡_, refl, sym, _∙_}
-use mathlib.Core.Bool.{Bool, true, false, cond, _&&_}
-use mathlib.Core.List.{[], _∷_, _++_}
+use mathlib.Core.Bool.{Bool, true, false, cond}
+use mathlib.Core.List.{[], _∷_}
 use Prim.Native.Nat.{ℕ, _<_, _≤_}
 use native.Mathlib.Omega.{arith}
-use lib.Dec.{T, eqb, ltb, ltb→lt}
+use lib.Dec.{eqb}
 use borrow.Author.Tests.{lt-ltb, le-ltb, eqb-true}
-use Rattle.refusals.specs.Refusals.{refused, answered, Refusals, firstOf, answer}
+use Rattle.refusals.specs.Refusals.{refused, answered, firstOf, answer}
 use Rattle.refusals.proofs.First.{first-holds, first-passes, append-refused, append-passes, answer-refused, answer-answered}
 use Rattle.timeslots.specs.declared.Direction.{Direction}
 use Rattle.timeslots.specs.Conditions.{badChip}

@@ -1,0 +1,9 @@
+pub mod Sized
+pub mod Answered
+pub mod Passed
+pub mod Small
+pub mod Made
+pub mod Valid
+pub mod Meaning
+pub mod Unique
+pub mod Room

@@ -1,0 +1,34 @@
+-- Tests, sums and places over plain lists: used by the definitions of the class book.
+-- Assumes nothing.
+use mathlib.Core.Bool.{Bool, true, _&&_, cond}
+use mathlib.Core.List.{List, [], _∷_, _++_}
+use Prim.Native.Nat.{ℕ, _+_}
+use lib.ListN.{take, drop}
+
+-- 1 where the test holds, else 0
+abbrev pub one : Bool → ℕ
+one b = cond b 1 0
+
+module _ {A : Type 0} where
+  -- the test holds of each
+  unfoldable pub every : (A → Bool) → List A → Bool
+  every p [] = true
+  every p (x ∷ l) = p x && every p l
+
+  -- each stands in the relation to every later one
+  unfoldable pub pairs : (A → A → Bool) → List A → Bool
+  pairs r [] = true
+  pairs r (x ∷ l) = every (r x) l && pairs r l
+
+  -- the sum of what each counts
+  unfoldable pub total : (A → ℕ) → List A → ℕ
+  total f [] = 0
+  total f (x ∷ l) = f x + total f l
+
+  -- x put in at place p
+  abbrev pub insertAt : ℕ → A → List A → List A
+  insertAt p x l = take p l ++ x ∷ drop p l
+
+  -- without the one at place p
+  abbrev pub removeAt : ℕ → List A → List A
+  removeAt p l = take p l ++ drop (p + 1) l

@@ -1,0 +1,55 @@
+-- The test of a seat as the code makes it, neighbour by neighbour, is the one of the definition. Cited by seat_ok's proof.
+-- Assumes nothing.
+use mathlib.Core.Path.{_≡_, ap, _∙_}
+use mathlib.Core.Logic.{⊎-elim}
+use mathlib.Core.Bool.{Bool, true, false, not, _&&_, _||_}
+use mathlib.Core.List.{List}
+use Prim.Native.Nat.{ℕ}
+use lib.Dec.{eqb, leb}
+use lib.ListN.{take, drop}
+use borrow.Author.Tests.{eqb-true}
+use Rattle.laws.specs.Lists.{every, pairs}
+use Rattle.laws.proofs.Bools.{and-true}
+use Rattle.laws.proofs.Lists.{by-cases}
+use Rattle.refusals.specs.Refusals.{firstOf}
+use Rattle.seats.specs.declared.booking.Booking.{Booking}
+use Rattle.seats.specs.declared.seat.Seat.{Seat}
+use Rattle.seats.specs.Bookings.{formOf}
+use Rattle.seats.specs.Seats.{isBlank, held, bookings, settingsRefusals, goodSettings, aboveCount, offBeacon, stands, standsIn, fine, isBare, seatOk}
+use Rattle.seats.specs.Inside.{chain}
+use Rattle.seats.proofs.Formed.{Formed, formed}
+use Rattle.seats.proofs.Order.{fine-trans, chain-pairs}
+
+pub stands-formed : (long short sync k : ℕ) (x : Booking) → stands long short sync k x ≡ true → Formed x
+unfolding stands
+stands-formed long short sync k x e = formed x (eqb-true _ _ (and-true (eqb (formOf x) 0) (not (aboveCount long short x) && not (offBeacon sync k x)) e .0))
+
+module _ (s : Seat) (l : List Booking) (b : Bool) where
+  abbrev as-paired : Type 0
+  as-paired = (every (standsIn s) l && (chain fine l && b)) ≡ (every (standsIn s) l && (pairs fine l && b))
+
+  neighbours : as-paired
+  neighbours = ⊎-elim standing fallen (by-cases (every (standsIn s) l))
+    where
+      in-form : (x : Booking) → standsIn s x ≡ true → Formed x
+      in-form x = stands-formed (s .long) (s .short) (s .sync) (s .k) x
+
+      standing : every (standsIn s) l ≡ true → as-paired
+      standing t =
+          ap (λ (c : Bool). every (standsIn s) l && (c && b))
+          (chain-pairs fine (standsIn s) (λ x y z px py pz. fine-trans x y z (in-form x px) (in-form y py) (in-form z pz)) l t)
+
+      fallen : every (standsIn s) l ≡ false → as-paired
+      fallen f = simp f
+
+-- n, bad, stand, order and rest are what the loops gave
+pub seat-tested : (s : Seat) (n bad : ℕ) (stand order rest : Bool)
+    → n ≡ held s → bad ≡ firstOf (settingsRefusals (s .cell) (s .long) (s .short) (s .sync) (s .k))
+    → stand ≡ every (standsIn s) (take n (s .row)) → order ≡ chain fine (take n (s .row)) → rest ≡ every isBlank (drop n (s .row))
+    → ((isBare s || (s .live && eqb bad 0)) && (leb (s .count) 40 && (stand && (order && rest)))) ≡ seatOk s
+unfolding seatOk goodSettings
+seat-tested s n bad stand order rest en eb es eo er =
+    let inner : (stand && (order && rest)) ≡ (every (standsIn s) (bookings s) && (chain fine (bookings s) && every isBlank (drop (held s) (s .row)))) = cc in
+    ap (λ (b : ℕ). (isBare s || (s .live && eqb b 0)) && (leb (s .count) 40 && (stand && (order && rest)))) eb
+    ∙ ap (λ (t : Bool). (isBare s || (s .live && eqb (firstOf (settingsRefusals (s .cell) (s .long) (s .short) (s .sync) (s .k))) 0)) && (leb (s .count) 40 && t))
+    (inner ∙ neighbours s (bookings s) (every isBlank (drop (held s) (s .row))))

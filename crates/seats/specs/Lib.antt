@@ -1,0 +1,3 @@
+pub mod Bookings
+pub mod Seats
+pub mod Inside

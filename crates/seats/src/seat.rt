@@ -162,7 +162,7 @@ fn all_blank(row: [Booking; 40], n: usize) -> bool
     ok
 }
 
-// Whether x clashes with one of the first n. Refusal 17.
+// Whether x clashes with one of the first n. Refusal 17. No call of document 01: public for the crate classbook, which hands in `held_by` as n.
 pub fn clashes_any(row: [Booking; 40], n: usize, x: Booking) -> bool
     requires { ⌜ n ≤ 40 ⌝ }
     ensures { λ r. ⌜ r ≡ clashesWith (take n row) x ⌝ }
@@ -314,7 +314,7 @@ fn is_named(y: Booking, timeslot: u32, factor: u32, index: u32) -> bool
     (y.timeslot as u32 == timeslot) & ((y.factor as u32 == factor) & (y.index as u32 == index))
 }
 
-// The place among the first n of the booking that is named by timeslot and code, or n where there is none.
+// The place among the first n of the booking that is named by timeslot and code, or n where there is none. Public for the crate classbook only, as above.
 pub fn place_named(row: [Booking; 40], n: usize, timeslot: u32, factor: u32, index: u32) -> usize
     requires { ⌜ n ≤ 40 ⌝ }
     ensures { λ r. ⌜ r ≡ placeNamed timeslot factor index (take n row) ⌝ }

@@ -1,6 +1,7 @@
 -- `midambles::code::user_refusal` meets its contract: it reads the table row by row.
 -- Assumes nothing.
 use mathlib.Core.Path.{_≡_}
+use mathlib.Core.Bool.{Bool}
 use Prim.Native.Nat.{ℕ}
 use Rattle.refusals.specs.Refusals.{firstOf, badType}
 use Rattle.refusals.specs.Inside.{orRefused, rowByRow}
@@ -10,10 +11,14 @@ use borrow.Author.Needs.{needs}
 use Rattle.midambles.proofs.code.user_refusal.Statement.{statement}
 use Rattle.midambles.proofs.code.user_refusal.Tie as tie
 
-four-rows : (cell burst count user : ℕ)
-    → orRefused (orRefused (orRefused (orRefused 0 1 (badCell cell)) 2 (badType burst)) 3 (badCount burst count)) 4 (badUser count user) ≡ firstOf (userRefusals cell burst count user)
+-- what the tests gave, and the refusals row by row
+four-rows : (cell burst count user : ℕ) (one two three four : Bool) (r₁ r₂ r₃ r₄ : ℕ)
+    → one ≡ badCell cell → two ≡ badType burst → three ≡ badCount burst count → four ≡ badUser count user
+    → r₁ ≡ orRefused 0 1 one → r₂ ≡ orRefused r₁ 2 two → r₃ ≡ orRefused r₂ 3 three → r₄ ≡ orRefused r₃ 4 four
+    → r₄ ≡ firstOf (userRefusals cell burst count user)
 unfolding rowByRow userRefusals
-four-rows cell burst count user = first-row-by-row (userRefusals cell burst count user) tt
+four-rows cell burst count user one two three four r₁ r₂ r₃ r₄ a b c d e₁ e₂ e₃ e₄ =
+    rw (e₄, e₃, e₂, e₁, a, b, c, d) (first-row-by-row (userRefusals cell burst count user) tt)
 
 bad-cell-requires : tie.Need-bad-cell-requires
 bad-cell-requires c κs = search needs
@@ -40,7 +45,11 @@ or-refused-requires-4 : tie.Need-or-refused-requires-4
 or-refused-requires-4 c κs = search needs
 
 returns : tie.Need-returns
-returns c = let a = c .before .before .before .before .before .before .before .before .args in cc (four-rows (a .cell) (a .burst) (a .count) (a .user))
+returns c =
+    let u = c .before .before .before .before in
+    four-rows _ _ _ _ _ _ _ _ _ _ _ _
+    (u .before .before .before .bad-cell .ensures) (u .before .before .bad-type .ensures) (u .before .bad-count .ensures) (u .bad-user .ensures)
+    (c .before .before .before .or-refused .ensures) (c .before .before .or-refused2 .ensures) (c .before .or-refused3 .ensures) (c .or-refused4 .ensures)
 
 pub user-refusal-spec : {M : Type 1} → statement M
 user-refusal-spec =

@@ -6,7 +6,7 @@ use Prim.Native.Nat.{ℕ}
 use lib.ListN.{replicate}
 use Rattle.refusals.specs.Refusals.{firstOf, after}
 use Rattle.refusals.proofs.First.{after-refused, after-answered}
-use Rattle.seats.specs.declared.booking.Booking.{Booking}
+use Rattle.bookings.specs.declared.Booking.{Booking}
 use Rattle.seats.specs.declared.seat.Seat.{Seat}
 use Rattle.seats.specs.Seats.{blank, closed, held}
 use Rattle.classbook.specs.declared.Book.{Book}

@@ -9,9 +9,9 @@ use lib.ListN.{length}
 use borrow.Author.Tests.{leb-false}
 use Rattle.refusals.specs.Refusals.{firstOf}
 use Rattle.refusals.proofs.First.{numbered, append-refused, append-passes, append-front}
-use Rattle.seats.specs.declared.booking.Booking.{Booking}
+use Rattle.bookings.specs.declared.Booking.{Booking}
 use Rattle.seats.specs.declared.seat.Seat.{Seat}
-use Rattle.seats.specs.Bookings.{formRefusals}
+use Rattle.bookings.specs.Bookings.{formRefusals}
 use Rattle.seats.specs.Seats.{held, bookings, settingsRefusals, insert, withPlan}
 use Rattle.seats.specs.Inside.{placeNamed, putIn, takenOut}
 use Rattle.seats.proofs.Plans.{plan-length, put-in-plan}

@@ -12,7 +12,7 @@ use borrow.Author.Tests.{eqb-true, eqb-false}
 use Rattle.laws.proofs.Lists.{by-cases}
 use Rattle.refusals.specs.Refusals.{firstOf, after}
 use Rattle.refusals.proofs.First.{after-refused, after-answered}
-use Rattle.seats.specs.declared.booking.Booking.{Booking}
+use Rattle.bookings.specs.declared.Booking.{Booking}
 use Rattle.seats.specs.declared.seat.Seat.{Seat}
 use Rattle.seats.specs.Seats.{closed, held, bookings, insert, without, withPlan, blank}
 use Rattle.seats.proofs.Plans.{plan-length, with-plan-bookings}

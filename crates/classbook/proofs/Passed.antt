@@ -13,8 +13,8 @@ use Rattle.laws.proofs.Bools.{and-true}
 use Rattle.laws.proofs.Lists.{every-at}
 use Rattle.refusals.specs.Refusals.{Refusals, firstOf}
 use Rattle.refusals.proofs.First.{numbered, first-none, append-passes, append-front}
-use Rattle.seats.specs.declared.booking.Booking.{Booking}
-use Rattle.seats.specs.Bookings.{badTimeslot, badCode, formRefusals, formOf}
+use Rattle.bookings.specs.declared.Booking.{Booking}
+use Rattle.bookings.specs.Bookings.{badTimeslot, badCode, formRefusals, formOf}
 use Rattle.seats.specs.Seats.{closed, held, bookings, settingsRefusals, aboveCount, offBeacon, stands, standsIn, clashesWith, seatOk}
 use Rattle.classbook.specs.declared.Book.{Book}
 use Rattle.classbook.specs.declared.Request.{Request}

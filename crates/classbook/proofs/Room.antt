@@ -9,7 +9,7 @@ use lib.Dec.{T, eqb}
 use borrow.Author.Tests.{eq-eqb, ne-eqb, le-leb, lt-leb, le-ltb}
 use Rattle.refusals.specs.Refusals.{firstOf}
 use Rattle.refusals.proofs.First.{numbered, append-passes}
-use Rattle.seats.specs.Bookings.{formRefusals}
+use Rattle.bookings.specs.Bookings.{formRefusals}
 use Rattle.seats.specs.Seats.{held, bookings, aboveCount, offBeacon, clashesWith}
 use Rattle.classbook.specs.declared.Book.{Book}
 use Rattle.classbook.specs.declared.Request.{Request}

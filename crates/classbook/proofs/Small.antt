@@ -16,7 +16,7 @@ use Rattle.midambles.specs.Calls.{badCell, badCount}
 use Rattle.midambles.specs.TrainingSequences.{codeOf}
 use Rattle.midambles.proofs.Codes.{small}
 use Rattle.beacons.specs.Beacons.{badBeacon}
-use Rattle.seats.specs.Bookings.{badBookedUser, badTimeslot, badCode, formRefusals}
+use Rattle.bookings.specs.Bookings.{badBookedUser, badTimeslot, badCode, formRefusals}
 use Rattle.seats.specs.Seats.{settingsRefusals}
 use Rattle.classbook.specs.declared.Request.{Request}
 use Rattle.classbook.specs.Calls.{requestRefusals}

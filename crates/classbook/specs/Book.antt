@@ -6,7 +6,7 @@ use Prim.Native.Nat.{ℕ, _-_}
 use lib.Dec.{leb}
 use lib.ListN.{getD, set, replicate}
 use Rattle.laws.specs.Lists.{every, total}
-use Rattle.seats.specs.declared.booking.Booking.{Booking}
+use Rattle.bookings.specs.declared.Booking.{Booking}
 use Rattle.seats.specs.declared.seat.Seat.{Seat}
 use Rattle.seats.specs.Seats.{closed, held, bookings, seatOk}
 use Rattle.classbook.specs.declared.Book.{Book}

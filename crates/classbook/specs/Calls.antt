@@ -7,9 +7,9 @@ use lib.Dec.{eqb, ltb, leb}
 use lib.ListN.{replicate}
 use Rattle.laws.specs.Lists.{every}
 use Rattle.refusals.specs.Refusals.{Refusals, firstOf, after}
-use Rattle.seats.specs.declared.booking.Booking.{Booking}
+use Rattle.bookings.specs.declared.Booking.{Booking}
 use Rattle.seats.specs.declared.seat.Seat.{Seat}
-use Rattle.seats.specs.Bookings.{badTimeslot, badCode, formRefusals}
+use Rattle.bookings.specs.Bookings.{badTimeslot, badCode, formRefusals}
 use Rattle.seats.specs.Seats.{blank, closed, held, bookings, settingsRefusals, aboveCount, offBeacon, clashesWith, insert, names, without, withPlan}
 use Rattle.classbook.specs.declared.Book.{Book}
 use Rattle.classbook.specs.declared.Request.{Request}

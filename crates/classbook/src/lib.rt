@@ -3,12 +3,10 @@
 mod tests;
 
 ghost use mathlib.Core.Path.{_≡_};
-ghost use Prim.Native.Nat.{_≤_, _<_};
-ghost use Rattle.laws.specs.Lists.{every};
-ghost use Rattle.seats.specs.Seats.{seatOk};
-ghost use Rattle.classbook.specs.Book.{emptyBook, seatOf, withSeat, beyond, common, bookOk};
+ghost use Prim.Native.Nat.{_-_, _≤_, _<_, min};
+ghost use Rattle.classbook.specs.Book.{emptyBook, seatOf, withSeat, common, bookOk};
 ghost use Rattle.classbook.specs.Calls.{longCount, shortCount, openSeat, openAnswer, asBooking, bookAnswer, cancelAnswer, closeAnswer, listAnswer};
-use seats::booking::Booking;
+use bookings::Booking;
 use seats::seat::Seat;
 use timeslots::Direction;
 
@@ -50,50 +48,59 @@ pub fn empty_book() -> Book
     Book { seats: all }
 }
 
-// Whether every seat meets its conditions.
-fn seats_ok(b: Book) -> bool
-    ensures { λ r. ⌜ r ≡ every seatOk (b .seats) ⌝ }
+// What a seat with this count holds beyond its first ten.
+fn beyond_ten(count: u8) -> usize
+    ensures { λ r. ⌜ (r ≡ min count 40 - 10) × (r ≤ 30) ⌝ }
+{
+    let n = seats::seat::held_by(count);
+    if n < 10 { 0 } else { n - 10 }
+}
+
+// What one walk through a book finds: whether it meets its conditions, the common room in use, and a seat.
+pub struct Checked {
+    pub ok: bool,
+    pub used: usize,
+    pub seat: Seat,
+}
+
+// Walks through a book once and brings a seat; above 15 a closed one.
+fn check(b: Book, seat: u32) -> Checked
+    ensures { λ r. ⌜ (r .ok ≡ bookOk b) × (r .used ≡ common b) × (r .seat ≡ seatOf b seat) ⌝ }
 {
     let mut i: usize = 0;
     let mut ok = true;
+    let mut used = 0;
     while i < 16 {
         let s = b.seats[i];
         let one = seats::seat::seat_ok(s);
         ok = ok & one;
+        used = used + beyond_ten(s.count);
         i += 1;
     }
-    ok
-}
-
-// What a seat holds beyond its first ten.
-fn beyond_ten(s: Seat) -> usize
-    ensures { λ r. ⌜ (r ≡ beyond s) × (r ≤ 30) ⌝ }
-{
-    let n = seats::seat::held_by(s.count);
-    if n < 10 { 0 } else { n - 10 }
-}
-
-// The common room in use.
-pub fn common_room(b: Book) -> usize
-    ensures { λ r. ⌜ r ≡ common b ⌝ }
-{
-    let mut i: usize = 0;
-    let mut used = 0;
-    while i < 16 {
-        let s = b.seats[i];
-        used = used + beyond_ten(s);
-        i += 1;
+    let fit = ok & (used <= 80);
+    if seat < 16 {
+        let j = seat as usize;
+        let s = b.seats[j];
+        return Checked {
+            ok: fit,
+            used,
+            seat: s,
+        };
     }
-    used
+    let none = seats::seat::closed_seat();
+    Checked {
+        ok: fit,
+        used,
+        seat: none,
+    }
 }
 
 // Whether a book meets its conditions.
 pub fn book_ok(b: Book) -> bool
     ensures { λ r. ⌜ r ≡ bookOk b ⌝ }
 {
-    let all = seats_ok(b);
-    let used = common_room(b);
-    all & (used <= 80)
+    let t = check(b, 0);
+    t.ok
 }
 
 // A seat by its number; above 15 a closed one.
@@ -107,17 +114,19 @@ pub fn seat_at(b: Book, seat: u32) -> Seat
     seats::seat::closed_seat()
 }
 
-// The book with another seat in its place; above 15 it stays.
-fn with_seat(b: Book, seat: u32, s: Seat) -> Book
-    ensures { λ r. ⌜ r ≡ withSeat b seat s ⌝ }
+// The answer of a call that exchanges a seat and is not refused; above 15 the book stays.
+fn with_seat(b: Book, seat: u32, s: Seat) -> BookAnswer
+    ensures { λ r. ⌜ r ≡ record { refusal = 0; book = withSeat b seat s } ⌝ }
 {
+    let mut made = b;
     if seat < 16 {
         let i = seat as usize;
-        let mut c = b;
-        c.seats[i] = s;
-        return c;
+        made.seats[i] = s;
     }
-    b
+    BookAnswer {
+        refusal: 0,
+        book: made,
+    }
 }
 
 // A seat as it is opened. Inside this crate only: the calls have tested its settings before.
@@ -161,11 +170,7 @@ pub fn open_seat(
         };
     }
     let s = opened(cell, sync, k, long, short);
-    let made = with_seat(b, seat, s);
-    BookAnswer {
-        refusal: 0,
-        book: made,
-    }
+    with_seat(b, seat, s)
 }
 
 // A request as it is kept. Inside this crate only: the calls have tested its numbers before.
@@ -198,22 +203,19 @@ pub fn book_code(b: Book, seat: u32, x: Request) -> BookAnswer
         };
     }
     let y = kept(x);
-    let n = tests::booking_refusal(b, seat, y);
+    let t = check(b, seat);
+    let n = tests::booking_refusal(b, seat, y, t);
     if n != 0 {
         return BookAnswer {
             refusal: n,
             book: b,
         };
     }
-    let s = seat_at(b, seat);
+    let s = t.seat;
     let row = s.row;
     let size = seats::seat::places(row);
-    let t = seats::seat::with_booking(s, y);
-    let made = with_seat(b, seat, t);
-    BookAnswer {
-        refusal: 0,
-        book: made,
-    }
+    let more = seats::seat::with_booking(s, y);
+    with_seat(b, seat, more)
 }
 
 // Cancels the booking of a seat that is named by timeslot and code. Refusals: 5, 6, 12, 13, 14, 21.
@@ -232,11 +234,7 @@ pub fn cancel_code(b: Book, seat: u32, timeslot: u32, factor: u32, index: u32) -
     let row = s.row;
     let size = seats::seat::places(row);
     let t = seats::seat::without_at(s, p);
-    let made = with_seat(b, seat, t);
-    BookAnswer {
-        refusal: 0,
-        book: made,
-    }
+    with_seat(b, seat, t)
 }
 
 // Closes a seat: its bookings and its settings go. Refusals: 12, 13, 14.
@@ -251,11 +249,7 @@ pub fn close_seat(b: Book, seat: u32) -> BookAnswer
         };
     }
     let none = seats::seat::closed_seat();
-    let made = with_seat(b, seat, none);
-    BookAnswer {
-        refusal: 0,
-        book: made,
-    }
+    with_seat(b, seat, none)
 }
 
 // Lists a seat's bookings by value. Refusals: 12, 13, 14.

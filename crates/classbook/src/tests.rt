@@ -3,11 +3,12 @@ ghost use mathlib.Core.Path.{_≡_};
 ghost use Rattle.refusals.specs.Refusals.{firstOf};
 ghost use Rattle.seats.specs.Seats.{bookings};
 ghost use Rattle.seats.specs.Inside.{placeNamed};
-ghost use Rattle.classbook.specs.Book.{seatOf};
+ghost use Rattle.classbook.specs.Book.{seatOf, common, bookOk};
 ghost use Rattle.classbook.specs.Calls.{longCount, shortCount, openRefusals, requestRefusals, bookingRefusals, cancelRefusals, seatRefusals};
 use crate::Book;
+use crate::Checked;
 use crate::Request;
-use seats::booking::Booking;
+use bookings::Booking;
 
 // "a count of 0 stands for 16 (long)"
 pub fn long_count(long: u32) -> u32
@@ -40,7 +41,7 @@ pub fn request_refusal(x: Request) -> u32
     ensures { λ r. ⌜ r ≡ firstOf (requestRefusals x) ⌝ }
 {
     let direction = x.direction;
-    seats::booking::form_refusal(
+    bookings::form_refusal(
         x.timeslot,
         direction,
         x.burst,
@@ -52,25 +53,25 @@ pub fn request_refusal(x: Request) -> u32
     )
 }
 
-pub fn booking_refusal(b: Book, seat: u32, x: Booking) -> u32
+// t is what a walk through the book found.
+pub fn booking_refusal(b: Book, seat: u32, x: Booking, t: Checked) -> u32
+    requires { ⌜ (t .ok ≡ bookOk b) × (t .used ≡ common b) × (t .seat ≡ seatOf b seat) ⌝ }
     ensures { λ r. ⌜ r ≡ firstOf (bookingRefusals b seat x) ⌝ }
 {
-    let ok = crate::book_ok(b);
-    let used = crate::common_room(b);
-    let s = crate::seat_at(b, seat);
+    let s = t.seat;
     let row = s.row;
     let held = seats::seat::held_by(s.count);
     let above = seats::seat::above_count(s.long, s.short, x);
     let clash = seats::seat::clashes_any(row, held, x);
     let off = seats::seat::off_beacon(s.sync, s.k, x);
-    let n = refusals::or_refused(0, 12, !ok);
+    let n = refusals::or_refused(0, 12, !t.ok);
     let n = refusals::or_refused(n, 13, seat > 15);
     let n = refusals::or_refused(n, 14, !s.live);
     let n = refusals::or_refused(n, 16, above);
     let n = refusals::or_refused(n, 17, clash);
     let n = refusals::or_refused(n, 18, off);
     let n = refusals::or_refused(n, 19, held == 40);
-    refusals::or_refused(n, 20, (10 <= held) & (used == 80))
+    refusals::or_refused(n, 20, (10 <= held) & (t.used == 80))
 }
 
 // The place of the booking named in a seat, or as many as the seat holds where there is none.
@@ -86,8 +87,8 @@ pub fn named_place(b: Book, seat: u32, timeslot: u32, factor: u32, index: u32) -
 pub fn cancel_refusal(b: Book, seat: u32, timeslot: u32, factor: u32, index: u32) -> u32
     ensures { λ r. ⌜ r ≡ firstOf (cancelRefusals b seat timeslot factor index) ⌝ }
 {
-    let five = seats::booking::bad_timeslot(timeslot);
-    let six = seats::booking::bad_code(factor, index);
+    let five = bookings::bad_timeslot(timeslot);
+    let six = bookings::bad_code(factor, index);
     let ok = crate::book_ok(b);
     let s = crate::seat_at(b, seat);
     let row = s.row;

@@ -1,6 +1,6 @@
 -- Truth values taken apart: what a joined test says of its parts.
 -- Assumes nothing.
-use mathlib.Core.Path.{_≡_, refl, sym}
+use mathlib.Core.Path.{_≡_, refl, sym, ap}
 use mathlib.Core.Bool.{Bool, true, false, _&&_, _||_}
 use Prim.Native.Nat.{ℕ}
 use native.Mathlib.Omega.{arith}
@@ -25,3 +25,13 @@ T-and-left false b t = t
 pub T-and-right : (a b : Bool) → T (a && b) → T b
 T-and-right true b t = t
 T-and-right false b t = absurd t
+
+-- three tests one after the other: the first that fails decides
+pub fails-first : (a r : Bool) → false ≡ a → false ≡ (a && r)
+fails-first a r e = ap (λ (b : Bool). b && r) e
+
+pub fails-second : (a b c : Bool) → a ≡ true → false ≡ b → false ≡ (a && (b && c))
+fails-second a b c ea eb = rw ea (fails-first b c eb)
+
+pub last-decides : (a b c r : Bool) → a ≡ true → b ≡ true → r ≡ c → r ≡ (a && (b && c))
+last-decides a b c r ea eb ec = rw (ea, eb) ec

@@ -3,3 +3,4 @@ pub mod Bools
 pub mod Lists
 pub mod Rows
 pub mod Places
+pub mod Neighbours

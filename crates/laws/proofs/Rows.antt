@@ -8,6 +8,7 @@ use native.Mathlib.Numerals.{add-one}
 use native.Mathlib.Omega.{arith}
 use native.Mathlib.Nat.{not-suc-le-zero, le-of-suc-le-suc, le-refl, lt-suc-self}
 use Rattle.laws.specs.Lists.{total, one, insertAt, removeAt}
+use Rattle.laws.proofs.Bools.{true-false}
 use lib.ListN.{length, take, drop, set, getD, length-take, drop-of-length-le, length-set, take-append-drop}
 use lib.Seq.{drop-cons, getD-take, length-take-le, take-suc-set, drop-set-lt, take-all, take-append-seam, take-set-le, take-suc, getD-set-same, drop-drop, drop-at, take-at}
 
@@ -103,3 +104,12 @@ module _ {A : Type 0} (xs : List A) (i : ℕ) (P : List A → Bool) where
   pub left-ended : P [] ≡ true → (ok w : Bool) → length xs ≤ i → (ok && P (drop i xs)) ≡ w → ok ≡ w
   left-ended eq ok w le inv =
       sym (and-true ok) ∙ ap (λ (b : Bool). ok && b) (sym eq) ∙ ap (λ (l : List A). ok && P l) (sym (drop-of-length-le xs {i = i} le)) ∙ inv
+
+-- A loop that ends at the first that fails: one that passed leaves the rest to be tested, and one that failed decides.
+pub goes-on : (h q w : Bool) → ((true && h) && q) ≡ w → h ≡ true → q ≡ w
+goes-on true q w e t = e
+goes-on false q w e t = true-false (sym t)
+
+pub stops : (h q w : Bool) → ((true && h) && q) ≡ w → h ≡ false → false ≡ w
+stops true q w e f = true-false f
+stops false q w e f = e

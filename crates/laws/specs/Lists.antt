@@ -20,6 +20,12 @@ module _ {A : Type 0} where
   pairs r [] = true
   pairs r (x ∷ l) = every (r x) l && pairs r l
 
+  -- each stands in the relation to its neighbour
+  unfoldable pub chain : (A → A → Bool) → List A → Bool
+  chain r [] = true
+  chain r (x ∷ []) = true
+  chain r (x ∷ y ∷ l) = r x y && chain r (y ∷ l)
+
   -- the sum of what each counts
   unfoldable pub total : (A → ℕ) → List A → ℕ
   total f [] = 0

@@ -15,10 +15,10 @@ use Rattle.laws.specs.Lists.{every, pairs, total, insertAt, removeAt}
 use Rattle.laws.proofs.Bools.{and-true}
 use Rattle.laws.proofs.Lists.{by-cases, both, hd, tl, cons, every-at}
 use Rattle.laws.proofs.Places.{length-remove}
-use Rattle.seats.specs.declared.booking.Booking.{Booking}
+use Rattle.bookings.specs.declared.Booking.{Booking}
 use Rattle.seats.specs.declared.seat.Seat.{Seat}
-use Rattle.seats.specs.Bookings.{firstLeaf, clash, key, comes}
-use Rattle.seats.specs.Seats.{held, bookings, standsIn, fine, seatOk, rank, insert, names, without, withPlan}
+use Rattle.bookings.specs.Bookings.{firstLeaf, clash, key, comes, fine}
+use Rattle.seats.specs.Seats.{held, bookings, standsIn, seatOk, rank, insert, names, without, withPlan}
 use Rattle.seats.specs.Inside.{placeNamed, takenOut}
 use Rattle.seats.proofs.Plans.{sound, open-good, with-plan-ok, plan-length, taken-out-at}
 

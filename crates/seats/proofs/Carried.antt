@@ -7,9 +7,9 @@ use native.Mathlib.Omega.{arith}
 use lib.ListN.{take, length-take}
 use Rattle.laws.specs.Lists.{insertAt, removeAt}
 use Rattle.laws.proofs.Rows.{count-le}
-use Rattle.seats.specs.declared.booking.Booking.{Booking}
+use Rattle.bookings.specs.declared.Booking.{Booking}
 use Rattle.seats.specs.declared.seat.Seat.{Seat}
-use Rattle.seats.specs.Bookings.{comes}
+use Rattle.bookings.specs.Bookings.{comes}
 use Rattle.seats.specs.Seats.{blank, held, bookings, rank}
 use Rattle.seats.specs.Inside.{putIn, takenOut}
 

@@ -18,11 +18,11 @@ use Rattle.refusals.specs.Refusals.{firstOf}
 use Rattle.timeslots.specs.declared.Direction.{Direction}
 use Rattle.timeslots.specs.declared.Direction.the-variants.{Up, Down}
 use Rattle.timeslots.specs.Conditions.{isDown}
-use Rattle.seats.specs.declared.booking.Booking.{Booking}
+use Rattle.bookings.specs.declared.Booking.{Booking}
 use Rattle.seats.specs.declared.seat.Seat.{Seat}
-use Rattle.seats.specs.Bookings.{leavesOf, leaf, overlaps, sameDirection, mixed, clash, key, comes}
-use Rattle.seats.specs.Seats.{blank, isBlank, isBare, closed, held, bookings, settingsRefusals, goodSettings, standsIn, clashesWith, fine, seatOk, rank, insert, withPlan}
-use Rattle.seats.proofs.Formed.{Formed}
+use Rattle.bookings.specs.Bookings.{leavesOf, leaf, overlaps, sameDirection, mixed, clash, key, comes, fine}
+use Rattle.seats.specs.Seats.{blank, isBlank, isBare, closed, held, bookings, settingsRefusals, goodSettings, standsIn, clashesWith, seatOk, rank, insert, withPlan}
+use Rattle.bookings.proofs.Formed.{Formed}
 use Rattle.seats.proofs.Tested.{stands-formed}
 use Rattle.seats.proofs.Plans.{sound, open-good, with-plan-ok, plan-length}
 

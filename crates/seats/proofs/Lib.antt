@@ -1,5 +1,4 @@
-pub mod Formed
-pub mod Order
+pub mod Blanks
 pub mod Tested
 pub mod Named
 pub mod Carried

@@ -5,7 +5,7 @@ use mathlib.Core.Bool.{true, false}
 use mathlib.Core.List.{List, [], _∷_}
 use Prim.Native.Nat.{ℕ, _+_}
 use native.Mathlib.Numerals.{add-one}
-use Rattle.seats.specs.declared.booking.Booking.{Booking}
+use Rattle.bookings.specs.declared.Booking.{Booking}
 use Rattle.seats.specs.Seats.{names}
 use Rattle.seats.specs.Inside.{placeNamed}
 

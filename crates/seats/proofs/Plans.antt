@@ -15,9 +15,10 @@ use Rattle.laws.proofs.Places.{every-replicate, every-same, length-insert, leng
 use Rattle.timeslots.specs.declared.Direction.{Direction}
 use Rattle.timeslots.specs.declared.Direction.the-variants.{Up, Down}
 use Rattle.timeslots.specs.Conditions.{isDown}
-use Rattle.seats.specs.declared.booking.Booking.{Booking}
+use Rattle.bookings.specs.declared.Booking.{Booking}
 use Rattle.seats.specs.declared.seat.Seat.{Seat}
-use Rattle.seats.specs.Seats.{blank, isBlank, held, bookings, goodSettings, standsIn, fine, isBare, seatOk, rank, insert, withPlan}
+use Rattle.bookings.specs.Bookings.{fine}
+use Rattle.seats.specs.Seats.{blank, isBlank, held, bookings, goodSettings, standsIn, isBare, seatOk, rank, insert, withPlan}
 use Rattle.seats.specs.Inside.{putIn, takenOut}
 use Rattle.seats.proofs.Carried.{kept, rank-high}
 

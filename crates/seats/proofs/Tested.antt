@@ -8,17 +8,17 @@ use Prim.Native.Nat.{ℕ}
 use lib.Dec.{eqb, leb}
 use lib.ListN.{take, drop}
 use borrow.Author.Tests.{eqb-true}
-use Rattle.laws.specs.Lists.{every, pairs}
+use Rattle.laws.specs.Lists.{every, pairs, chain}
 use Rattle.laws.proofs.Bools.{and-true}
 use Rattle.laws.proofs.Lists.{by-cases}
+use Rattle.laws.proofs.Neighbours.{chain-pairs}
 use Rattle.refusals.specs.Refusals.{firstOf}
-use Rattle.seats.specs.declared.booking.Booking.{Booking}
+use Rattle.bookings.specs.declared.Booking.{Booking}
 use Rattle.seats.specs.declared.seat.Seat.{Seat}
-use Rattle.seats.specs.Bookings.{formOf}
-use Rattle.seats.specs.Seats.{isBlank, held, bookings, settingsRefusals, goodSettings, aboveCount, offBeacon, stands, standsIn, fine, isBare, seatOk}
-use Rattle.seats.specs.Inside.{chain}
-use Rattle.seats.proofs.Formed.{Formed, formed}
-use Rattle.seats.proofs.Order.{fine-trans, chain-pairs}
+use Rattle.bookings.specs.Bookings.{formOf, fine}
+use Rattle.seats.specs.Seats.{isBlank, held, bookings, settingsRefusals, goodSettings, aboveCount, offBeacon, stands, standsIn, isBare, seatOk}
+use Rattle.bookings.proofs.Formed.{Formed, formed}
+use Rattle.bookings.proofs.Order.{fine-trans}
 
 pub stands-formed : (long short sync k : ℕ) (x : Booking) → stands long short sync k x ≡ true → Formed x
 unfolding stands
@@ -42,14 +42,14 @@ module _ (s : Seat) (l : List Booking) (b : Bool) where
       fallen : every (standsIn s) l ≡ false → as-paired
       fallen f = simp f
 
--- n, bad, stand, order and rest are what the loops gave
-pub seat-tested : (s : Seat) (n bad : ℕ) (stand order rest : Bool)
+-- n, bad and fit are what the tests gave
+pub seat-tested : (s : Seat) (n bad : ℕ) (fit : Bool)
     → n ≡ held s → bad ≡ firstOf (settingsRefusals (s .cell) (s .long) (s .short) (s .sync) (s .k))
-    → stand ≡ every (standsIn s) (take n (s .row)) → order ≡ chain fine (take n (s .row)) → rest ≡ every isBlank (drop n (s .row))
-    → ((isBare s || (s .live && eqb bad 0)) && (leb (s .count) 40 && (stand && (order && rest)))) ≡ seatOk s
+    → fit ≡ (every (standsIn s) (take n (s .row)) && (chain fine (take n (s .row)) && every isBlank (drop n (s .row))))
+    → ((isBare s || (s .live && eqb bad 0)) && (leb (s .count) 40 && fit)) ≡ seatOk s
 unfolding seatOk goodSettings
-seat-tested s n bad stand order rest en eb es eo er =
-    let inner : (stand && (order && rest)) ≡ (every (standsIn s) (bookings s) && (chain fine (bookings s) && every isBlank (drop (held s) (s .row)))) = cc in
-    ap (λ (b : ℕ). (isBare s || (s .live && eqb b 0)) && (leb (s .count) 40 && (stand && (order && rest)))) eb
-    ∙ ap (λ (t : Bool). (isBare s || (s .live && eqb (firstOf (settingsRefusals (s .cell) (s .long) (s .short) (s .sync) (s .k))) 0)) && (leb (s .count) 40 && t))
-    (inner ∙ neighbours s (bookings s) (every isBlank (drop (held s) (s .row))))
+seat-tested s n bad fit en eb ef =
+    let inner : fit ≡ (every (standsIn s) (bookings s) && (chain fine (bookings s) && every isBlank (drop (held s) (s .row)))) = rw (ef, en) in
+    rw eb
+    (ap (λ (t : Bool). (isBare s || (s .live && eqb (firstOf (settingsRefusals (s .cell) (s .long) (s .short) (s .sync) (s .k))) 0)) && (leb (s .count) 40 && t))
+    (inner ∙ neighbours s (bookings s) (every isBlank (drop (held s) (s .row)))))

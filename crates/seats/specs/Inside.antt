@@ -1,24 +1,13 @@
 -- What the functions of this crate promise each other, beyond document 01. No reader of a public promise has to believe it.
 -- Assumes nothing.
-use mathlib.Core.Bool.{Bool, true, cond, _&&_}
+use mathlib.Core.Bool.{cond}
 use mathlib.Core.List.{List, [], _∷_, _++_}
 use Prim.Native.Nat.{ℕ, suc, _+_, _-_}
 use lib.ListN.{take}
 use Rattle.laws.specs.Lists.{insertAt, removeAt}
-use Rattle.seats.specs.declared.booking.Booking.{Booking}
+use Rattle.bookings.specs.declared.Booking.{Booking}
 use Rattle.seats.specs.declared.seat.Seat.{Seat}
 use Rattle.seats.specs.Seats.{blank, held, bookings, rank, names}
-
-module _ {A : Type 0} where
-  -- x stands in the relation to the first of a list, if there is one
-  unfoldable pub next : (A → A → Bool) → A → List A → Bool
-  next r x [] = true
-  next r x (y ∷ l) = r x y
-
-  -- each stands in the relation to its neighbour
-  unfoldable pub chain : (A → A → Bool) → List A → Bool
-  chain r [] = true
-  chain r (x ∷ l) = next r x l && chain r l
 
 -- the place of the first booking that is named; the length where there is none
 unfoldable pub placeNamed : ℕ → ℕ → ℕ → List Booking → ℕ

@@ -1,3 +1,2 @@
-pub mod Bookings
 pub mod Seats
 pub mod Inside

@@ -11,9 +11,9 @@ use Rattle.timeslots.specs.declared.Direction.the-variants.{Up}
 use Rattle.timeslots.specs.Conditions.{isDown}
 use Rattle.midambles.specs.Calls.{badCell, badCount}
 use Rattle.beacons.specs.Beacons.{badBeacon, isBeacon}
-use Rattle.seats.specs.declared.booking.Booking.{Booking}
+use Rattle.bookings.specs.declared.Booking.{Booking}
 use Rattle.seats.specs.declared.seat.Seat.{Seat}
-use Rattle.seats.specs.Bookings.{formOf, clash, comes, breaksBeacon}
+use Rattle.bookings.specs.Bookings.{formOf, clash, comes, fine, breaksBeacon}
 
 -- a place that is not in use
 abbrev pub blank : Booking
@@ -63,10 +63,6 @@ standsIn s x = stands (s .long) (s .short) (s .sync) (s .k) x
 -- 17: "clash inside this seat's own cell"
 unfoldable pub clashesWith : List Booking → Booking → Bool
 clashesWith l x = not (every (λ y. not (clash x y)) l)
-
--- x may stand before y in a plan: it comes before it in list order, and they do not clash
-unfoldable pub fine : Booking → Booking → Bool
-fine x y = comes x y && not (clash x y)
 
 -- a closed seat has no settings and holds nothing
 unfoldable pub isBare : Seat → Bool

@@ -1,3 +1,2 @@
-// The class book, one seat of it (document 01, "The class book"): a booking, and a seat's row of bookings, kept sorted as it is listed and blank behind them.
-pub mod booking;
+// The class book, one seat of it (document 01, "The class book"): its settings and its row of bookings, kept sorted as it is listed and blank behind them.
 pub mod seat;

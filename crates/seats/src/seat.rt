@@ -1,14 +1,15 @@
 // One seat: its settings and its row of bookings, kept in list order and blank behind them. All tests are straight loops over the row.
 ghost use mathlib.Core.Path.{_≡_};
+ghost use mathlib.Core.Bool.{_&&_};
 ghost use mathlib.Core.List.{_++_, _∷_, []};
 ghost use Prim.Native.Nat.{_+_, _≤_, _<_, min};
 ghost use lib.ListN.{length, take, drop, getD};
-ghost use Rattle.laws.specs.Lists.{one, every, insertAt, removeAt};
+ghost use Rattle.laws.specs.Lists.{one, every, chain, insertAt, removeAt};
 ghost use Rattle.refusals.specs.Refusals.{firstOf};
-ghost use Rattle.seats.specs.Bookings.{clash};
-ghost use Rattle.seats.specs.Seats.{blank, isBlank, closed, settingsRefusals, aboveCount, offBeacon, stands, clashesWith, fine, seatOk, rank, names};
-ghost use Rattle.seats.specs.Inside.{next, chain, placeNamed, putIn, takenOut};
-use crate::booking::Booking;
+ghost use Rattle.bookings.specs.Bookings.{clash, fine};
+ghost use Rattle.seats.specs.Seats.{blank, isBlank, closed, settingsRefusals, aboveCount, offBeacon, stands, clashesWith, seatOk, rank, names};
+ghost use Rattle.seats.specs.Inside.{placeNamed, putIn, takenOut};
+use bookings::Booking;
 use timeslots::Direction;
 
 // A seat. Closed, it is all zero and its row is blank.
@@ -53,16 +54,17 @@ pub fn places(row: [Booking; 40]) -> usize
     40
 }
 
+// All its numbers are 0, tested as one number of as many bytes as a booking has in memory.
 fn blank_place(x: Booking) -> bool
     ensures { λ r. ⌜ r ≡ isBlank x ⌝ }
 {
     let d = x.direction;
     let down = timeslots::is_down(d);
-    (x.timeslot == 0)
-        & (!down
-            & ((x.burst == 0)
-                & ((x.factor == 0)
-                    & ((x.index == 0) & ((x.user == 0) & ((x.tfci == 0) & (x.tpc == 0)))))))
+    let control = (x.tfci as u64) + (x.tpc as u64) * 256;
+    let code = (x.factor as u64)
+        + ((x.index as u64) + ((x.user as u64) + control * 256) * 256) * 256;
+    let all = (x.timeslot as u64) + ((x.burst as u64) + code * 256) * 65536;
+    !down & (all == 0)
 }
 
 // Refusal 16.
@@ -80,7 +82,7 @@ pub fn off_beacon(sync: u8, k: u8, x: Booking) -> bool
     ensures { λ r. ⌜ r ≡ offBeacon sync k x ⌝ }
 {
     let there = beacons::is_beacon(sync as u32, k as u32, x.timeslot as u32);
-    let breaks = crate::booking::breaks_beacon(x);
+    let breaks = bookings::breaks_beacon(x);
     there & breaks
 }
 
@@ -88,76 +90,44 @@ pub fn off_beacon(sync: u8, k: u8, x: Booking) -> bool
 fn may_stand(long: u8, short: u8, sync: u8, k: u8, x: Booking) -> bool
     ensures { λ r. ⌜ r ≡ stands long short sync k x ⌝ }
 {
-    let form = crate::booking::form_of(x);
+    let form = bookings::form_of(x);
     let above = above_count(long, short, x);
     let off = off_beacon(sync, k, x);
     (form == 0) & (!above & !off)
 }
 
-// Whether each of the first n may.
-fn all_stand(row: [Booking; 40], n: usize, long: u8, short: u8, sync: u8, k: u8) -> bool
+// Whether of the first n each may stand, each may stand before its neighbour, and every place from n on is blank. Neighbours are enough for all pairs among
+// bookings that may stand: bookings/proofs/Order.antt. Three loops in one function: each function that takes places of a row copies the row first.
+fn row_ok(row: [Booking; 40], n: usize, long: u8, short: u8, sync: u8, k: u8) -> bool
     requires { ⌜ n ≤ 40 ⌝ }
-    ensures { λ r. ⌜ r ≡ every (stands long short sync k) (take n row) ⌝ }
+    ensures { λ r. ⌜ r ≡ (every (stands long short sync k) (take n row) && (chain fine (take n row) && every isBlank (drop n row))) ⌝ }
 {
-    let mut i = 0;
-    let mut ok = true;
+    let mut i: usize = 0;
     while i < n {
         let x = row[i];
-        let s = may_stand(long, short, sync, k, x);
-        ok = ok & s;
+        let fit = may_stand(long, short, sync, k, x);
+        if !fit {
+            return false;
+        }
         i += 1;
     }
-    ok
-}
-
-// Whether x may stand before y.
-fn fine_pair(x: Booking, y: Booking) -> bool
-    ensures { λ r. ⌜ r ≡ fine x y ⌝ }
-{
-    let before = crate::booking::comes_before(x, y);
-    let clash = crate::booking::clashing(x, y);
-    before & !clash
-}
-
-// Whether the one at place i may stand before its neighbour among the first n.
-fn fine_next(row: [Booking; 40], n: usize, i: usize) -> bool
-    requires { ⌜ (n ≤ 40) × (i < n) ⌝ }
-    ensures { λ r. ⌜ r ≡ next fine (getD row i blank) (drop (i + 1) (take n row)) ⌝ }
-{
-    if i + 1 < n {
-        let x = row[i];
-        let y = row[i + 1];
-        return fine_pair(x, y);
+    let mut j: usize = 0;
+    while j + 1 < n {
+        let x = row[j];
+        let y = row[j + 1];
+        let fit = bookings::fine_pair(x, y);
+        if !fit {
+            return false;
+        }
+        j += 1;
     }
-    true
-}
-
-// Whether of the first n each may stand before its neighbour. Among bookings that may stand that is enough for all pairs: proofs/Order.antt.
-fn all_fine(row: [Booking; 40], n: usize) -> bool
-    requires { ⌜ n ≤ 40 ⌝ }
-    ensures { λ r. ⌜ r ≡ chain fine (take n row) ⌝ }
-{
-    let mut i = 0;
+    let mut p = n;
     let mut ok = true;
-    while i < n {
-        let f = fine_next(row, n, i);
-        ok = ok & f;
-        i += 1;
-    }
-    ok
-}
-
-// Whether every place from n on is blank.
-fn all_blank(row: [Booking; 40], n: usize) -> bool
-    ensures { λ r. ⌜ r ≡ every isBlank (drop n row) ⌝ }
-{
-    let mut i = n;
-    let mut ok = true;
-    while i < 40 {
-        let x = row[i];
+    while p < 40 {
+        let x = row[p];
         let b = blank_place(x);
         ok = ok & b;
-        i += 1;
+        p += 1;
     }
     ok
 }
@@ -171,7 +141,7 @@ pub fn clashes_any(row: [Booking; 40], n: usize, x: Booking) -> bool
     let mut ok = true;
     while i < n {
         let y = row[i];
-        let c = crate::booking::clashing(x, y);
+        let c = bookings::clashing(x, y);
         ok = ok & !c;
         i += 1;
     }
@@ -207,10 +177,8 @@ pub fn seat_ok(s: Seat) -> bool
         s.sync as u32,
         s.k as u32,
     );
-    let stand = all_stand(row, n, s.long, s.short, s.sync, s.k);
-    let order = all_fine(row, n);
-    let rest = all_blank(row, n);
-    (bare | (s.live & (bad == 0))) & ((s.count <= 40) & (stand & (order & rest)))
+    let fit = row_ok(row, n, s.long, s.short, s.sync, s.k);
+    (bare | (s.live & (bad == 0))) & ((s.count <= 40) & fit)
 }
 
 // A closed seat.
@@ -246,7 +214,7 @@ fn place_of(row: [Booking; 40], n: usize, x: Booking) -> usize
     let mut at = 0;
     while i < n {
         let y = row[i];
-        let c = crate::booking::comes_before(y, x);
+        let c = bookings::comes_before(y, x);
         at = at + one_if(c);
         i += 1;
     }

@@ -24,17 +24,17 @@ kept-requires c κs =
     let s = request-small (c .before .before .args .x) (sym (c .before .request-refusal .ensures) ∙ c .if1 .left) in
     (s .timeslot-high, s .burst-high, s .factor-high, s .index-high, s .user-in, s .tfci-high, s .tpc-high)
 
+check-requires : tie.Need-check-requires
+check-requires c κs = search needs
+
 booking-refusal-requires : tie.Need-booking-refusal-requires
 booking-refusal-requires c κs = search needs
 
 returns-2 : tie.Need-returns-2
 unfolding bookAnswer
 returns-2 c =
-    let k = c .before .before in
+    let k = c .before .before .before in
     refused-by _ _ _ _ (book-late _ _ _ _ _ _ (k .before .before .request-refusal .ensures) (k .before .if1 .left) (k .kept .ensures) (c .before .booking-refusal .ensures)) (c .if2 .taken)
-
-seat-at-requires : tie.Need-seat-at-requires
-seat-at-requires c κs = search needs
 
 places-requires : tie.Need-places-requires
 places-requires c κs = search needs
@@ -49,15 +49,15 @@ returns-3 : tie.Need-returns-3
 unfolding bookAnswer
 returns-3 c =
     let w = c .before in
-    let t = w .before .before .before in
-    let e = t .before in
-    let k = e .before .before in
+    let e = w .before .before .before .before in
+    let t = e .before .before in
+    let k = t .before in
     let start = k .before .before .before in
     let number = book-late _ _ _ _ _ _ (k .before .before .request-refusal .ensures) (k .before .if1 .left) (k .kept .ensures) (e .before .booking-refusal .ensures) in
     let h = sixteen (start .args .b) (start .good .0 .1 .1 .0 .1 .0 .1) in
-    made-by _ _ _ _ _ number (e .if2 .left)
-    (c .with-seat .ensures ∙ ap (λ (s : Seat). withSeat (start .args .b) (start .args .seat) s) (w .with-booking .ensures)
-    ∙ booked-made _ _ _ _ _ h (t .seat-at .ensures) (w .before .places .ensures .1) (k .kept .ensures) (sym (e .before .booking-refusal .ensures) ∙ e .if2 .left))
+    c .with-seat .ensures ∙ made-by _ _ _ _ _ number (e .if2 .left)
+    (ap (λ (s : Seat). withSeat (start .args .b) (start .args .seat) s) (w .with-booking .ensures)
+    ∙ booked-made _ _ _ _ _ h (t .check .ensures .2) (w .before .places .ensures .1) (k .kept .ensures) (sym (e .before .booking-refusal .ensures) ∙ e .if2 .left))
 
 pub book-code-spec : {M : Type 1} → statement M
 book-code-spec =
@@ -66,9 +66,9 @@ book-code-spec =
     request-refusal-requires
     returns
     kept-requires
+    check-requires
     booking-refusal-requires
     returns-2
-    seat-at-requires
     places-requires
     with-booking-requires
     with-seat-requires

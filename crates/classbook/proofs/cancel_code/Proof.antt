@@ -50,8 +50,8 @@ returns-2 c =
     let e = t .before .before in
     let start = e .before .before in
     let h = sixteen (start .args .b) (start .good .0 .1 .1 .0 .1 .0 .1) in
-    made-by _ _ _ _ _ (e .before .cancel-refusal .ensures) (e .if1 .left)
-    (c .with-seat .ensures ∙ ap (λ (s : Seat). withSeat (start .args .b) (start .args .seat) s) (w .without-at .ensures)
+    c .with-seat .ensures ∙ made-by _ _ _ _ _ (e .before .cancel-refusal .ensures) (e .if1 .left)
+    (ap (λ (s : Seat). withSeat (start .args .b) (start .args .seat) s) (w .without-at .ensures)
     ∙ cancelled-made _ _ _ _ _ _ _ h (t .seat-at .ensures) (w .before .places .ensures .1) (t .before .named-place .ensures) (sym (e .before .cancel-refusal .ensures) ∙ e .if1 .left))
 
 pub cancel-code-spec : {M : Type 1} → statement M

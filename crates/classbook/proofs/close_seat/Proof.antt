@@ -26,8 +26,8 @@ returns-2 : tie.Need-returns-2
 unfolding closeAnswer
 returns-2 c =
     let e = c .before .before in
-    made-by _ _ _ _ _ (e .before .seat-refusal .ensures) (e .if1 .left)
-    (c .with-seat .ensures ∙ ap (λ (s : Seat). withSeat (e .before .before .args .b) (e .before .before .args .seat) s) (c .before .closed-seat .ensures))
+    c .with-seat .ensures ∙ made-by _ _ _ _ _ (e .before .seat-refusal .ensures) (e .if1 .left)
+    (ap (λ (s : Seat). withSeat (e .before .before .args .b) (e .before .before .args .seat) s) (c .before .closed-seat .ensures))
 
 pub close-seat-spec : {M : Type 1} → statement M
 close-seat-spec =

@@ -34,7 +34,7 @@ unfolding openAnswer
 returns-2 c =
     let e = c .before .before in
     let a = e .before .before .args in
-    made-by _ _ _ _ _ (e .before .open-refusal .ensures) (e .if1 .left) (c .with-seat .ensures ∙ ap (λ (s : Seat). withSeat (a .b) (a .seat) s) (c .before .opened .ensures))
+    c .with-seat .ensures ∙ made-by _ _ _ _ _ (e .before .open-refusal .ensures) (e .if1 .left) (ap (λ (s : Seat). withSeat (a .b) (a .seat) s) (c .before .opened .ensures))
 
 pub open-seat-spec : {M : Type 1} → statement M
 open-seat-spec =

@@ -26,7 +26,7 @@ returns-2 : tie.Need-returns-2
 unfolding withSeat
 returns-2 c =
     let h : length (c .before .args .b .seats) ≡ 16 = sixteen (c .before .args .b) (c .before .good .0 .1 .1 .0 .1 .0 .1) in
-    ap (λ (l : List Seat). record { seats = l }) (sym (set-out (c .before .args .b .seats) (c .before .args .seat) (c .before .args .s) (omega arith)))
+    ap (λ (l : List Seat). record { refusal = 0; book = record { seats = l } }) (sym (set-out (c .before .args .b .seats) (c .before .args .seat) (c .before .args .s) (omega arith)))
 
 pub with-seat-spec : {M : Type 1} → statement M
 with-seat-spec = tie.close (tie.spec mul-s element-set-from-s returns returns-2)

@@ -8,7 +8,7 @@ use lib.ListN.{take}
 use Rattle.refusals.specs.Refusals.{firstOf}
 use Rattle.refusals.specs.Inside.{orRefused, rowByRow}
 use Rattle.refusals.proofs.First.{first-row-by-row}
-use Rattle.seats.specs.declared.booking.Booking.{Booking}
+use Rattle.bookings.specs.declared.Booking.{Booking}
 use Rattle.seats.specs.declared.seat.Seat.{Seat}
 use Rattle.classbook.specs.declared.Book.{Book}
 use Rattle.seats.specs.Seats.{held, aboveCount, clashesWith, offBeacon}
@@ -18,7 +18,7 @@ use borrow.Author.Needs.{needs}
 use Rattle.classbook.proofs.tests.booking_refusal.Statement.{statement}
 use Rattle.classbook.proofs.tests.booking_refusal.Tie as tie
 
--- what the tests gave, of the book, of the common room and of the seat, and the refusals row by row
+-- what was found of the book, its common room and its seat, what the tests gave, and the refusals row by row
 eight-rows : (b : Book) (seat : ℕ) (x : Booking) (ok : Bool) (used n : ℕ) (s : Seat) (above clash off : Bool) (r₁ r₂ r₃ r₄ r₅ r₆ r₇ r₈ : ℕ)
     → ok ≡ bookOk b → used ≡ common b → s ≡ seatOf b seat → n ≡ held s
     → above ≡ aboveCount (s .long) (s .short) x → clash ≡ clashesWith (take n (s .row)) x → off ≡ offBeacon (s .sync) (s .k) x
@@ -28,15 +28,6 @@ eight-rows : (b : Book) (seat : ℕ) (x : Booking) (ok : Bool) (used n : ℕ) (s
 unfolding rowByRow bookingRefusals badBook badSeat notOpen seatFull roomUsedUp
 eight-rows b seat x ok used n s above clash off r₁ r₂ r₃ r₄ r₅ r₆ r₇ r₈ eok eused es en ea ec eo e₁ e₂ e₃ e₄ e₅ e₆ e₇ e₈ =
     rw (e₈, e₇, e₆, e₅, e₄, e₃, e₂, e₁, eok, eused, ea, ec, eo, en, es) (first-row-by-row (bookingRefusals b seat x) tt)
-
-book-ok-requires : tie.Need-book-ok-requires
-book-ok-requires c κs = search needs
-
-common-room-requires : tie.Need-common-room-requires
-common-room-requires c κs = search needs
-
-seat-at-requires : tie.Need-seat-at-requires
-seat-at-requires c κs = search needs
 
 held-by-requires : tie.Need-held-by-requires
 held-by-requires c κs = search needs
@@ -76,24 +67,23 @@ or-refused-requires-8 c κs = search needs
 
 returns : tie.Need-returns
 returns c =
-    let c₂ = c .before .before .before .before .before .before .before in
-    let o = c₂ .before .before in
-    let h = o .before .before .before in
-    let t = h .before .before in
+    let c₇ = c .before .before in
+    let c₄ = c₇ .before .before .before in
+    let c₂ = c₄ .before .before .before in
+    let off = c₂ .before .before .before in
+    let h = off .before .before .before in
+    let q = h .before .before .before .pre in
     eight-rows _ _ _ _ _ _ _ _ _ _ _ _ _ _ _ _ _ _
-    (t .before .before .book-ok .ensures) (t .before .common-room .ensures) (t .seat-at .ensures) (h .held-by .ensures .0)
-    (o .before .before .above-count .ensures) (o .before .clashes-any .ensures) (o .off-beacon .ensures)
-    (c₂ .before .or-refused .ensures) (c₂ .or-refused2 .ensures) (c .before .before .before .before .before .or-refused3 .ensures)
-    (c .before .before .before .before .or-refused4 .ensures) (c .before .before .before .or-refused5 .ensures) (c .before .before .or-refused6 .ensures)
-    (c .before .or-refused7 .ensures) (c .or-refused8 .ensures)
+    (q .0) (q .1) (q .2) (h .held-by .ensures .0)
+    (off .before .before .above-count .ensures) (off .before .clashes-any .ensures) (off .off-beacon .ensures)
+    (c₂ .before .or-refused .ensures) (c₂ .or-refused2 .ensures) (c₄ .before .or-refused3 .ensures)
+    (c₄ .or-refused4 .ensures) (c₇ .before .before .or-refused5 .ensures) (c₇ .before .or-refused6 .ensures)
+    (c₇ .or-refused7 .ensures) (c .or-refused8 .ensures)
 
 pub booking-refusal-spec : {M : Type 1} → statement M
 booking-refusal-spec =
     tie.close
     (tie.spec
-    book-ok-requires
-    common-room-requires
-    seat-at-requires
     held-by-requires
     above-count-requires
     clashes-any-requires

@@ -11,7 +11,7 @@ use Rattle.refusals.specs.Inside.{orRefused, rowByRow}
 use Rattle.refusals.proofs.First.{first-row-by-row}
 use Rattle.seats.specs.declared.seat.Seat.{Seat}
 use Rattle.classbook.specs.declared.Book.{Book}
-use Rattle.seats.specs.Bookings.{badTimeslot, badCode}
+use Rattle.bookings.specs.Bookings.{badTimeslot, badCode}
 use Rattle.seats.specs.Seats.{held, bookings}
 use Rattle.seats.specs.Inside.{placeNamed}
 use Rattle.seats.proofs.Plans.{plan-length}

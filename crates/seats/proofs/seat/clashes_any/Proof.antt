@@ -8,7 +8,7 @@ use borrow.Author.Needs.{needs}
 use lib.ListN.{take, drop}
 use Rattle.laws.specs.Lists.{every}
 use Rattle.laws.proofs.Rows.{turn, ended}
-use Rattle.seats.specs.Bookings.{clash}
+use Rattle.bookings.specs.Bookings.{clash}
 use Rattle.seats.specs.Seats.{clashesWith}
 use Rattle.seats.proofs.seat.clashes_any.Statement.{statement}
 use Rattle.seats.proofs.seat.clashes_any.Tie as tie

@@ -3,7 +3,7 @@
 use mathlib.Core.Path.{ap}
 use mathlib.Core.Bool.{false}
 use lib.ListN.{replicate}
-use Rattle.seats.specs.declared.booking.Booking.{Booking}
+use Rattle.bookings.specs.declared.Booking.{Booking}
 use Rattle.seats.specs.Seats.{closed}
 use borrow.Author.Needs.{needs}
 use Rattle.seats.proofs.seat.closed_seat.Statement.{statement}

@@ -8,7 +8,7 @@ use lib.ListN.{take, drop}
 use native.Mathlib.Nat.{zero-add}
 use Rattle.laws.specs.Lists.{one, total}
 use Rattle.laws.proofs.Rows.{turn-sum, ended-sum}
-use Rattle.seats.specs.Bookings.{comes}
+use Rattle.bookings.specs.Bookings.{comes}
 use Rattle.seats.specs.Seats.{rank}
 use Rattle.seats.proofs.seat.place_of.Statement.{statement}
 use Rattle.seats.proofs.seat.place_of.Tie as tie

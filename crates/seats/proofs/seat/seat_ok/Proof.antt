@@ -27,18 +27,12 @@ cast-settings-refusal-5 c = search needs
 settings-refusal-requires : tie.Need-settings-refusal-requires
 settings-refusal-requires c κs = search needs
 
-all-stand-requires : tie.Need-all-stand-requires
-all-stand-requires c κs = c .before .before .before .before .before .before .before .before .before .before .before .before .before .held-by .ensures .1
-
-all-fine-requires : tie.Need-all-fine-requires
-all-fine-requires c κs = c .before .before .before .before .before .before .before .before .before .before .before .before .before .before .held-by .ensures .1
-
-all-blank-requires : tie.Need-all-blank-requires
-all-blank-requires c κs = search needs
+row-ok-requires : tie.Need-row-ok-requires
+row-ok-requires c κs = c .before .before .before .before .before .before .before .before .before .before .before .before .before .held-by .ensures .1
 
 returns : tie.Need-returns
 unfolding isBare
-returns c = seat-tested _ _ _ _ _ _ (c .before .before .before .before .before .before .before .before .before .before .before .before .before .before .before .before .before .before .held-by .ensures .0) (c .before .before .before .before .before .settings-refusal .ensures) (c .before .before .before .before .all-stand .ensures) (c .before .before .before .all-fine .ensures) (c .before .before .all-blank .ensures)
+returns c = seat-tested _ _ _ _ (c .before .before .before .before .before .before .before .before .before .before .before .before .before .before .before .before .held-by .ensures .0) (c .before .before .before .settings-refusal .ensures) (c .before .before .row-ok .ensures)
 
 pub seat-ok-spec : {M : Type 1} → statement M
 seat-ok-spec =
@@ -51,7 +45,5 @@ seat-ok-spec =
     cast-settings-refusal-4
     cast-settings-refusal-5
     settings-refusal-requires
-    all-stand-requires
-    all-fine-requires
-    all-blank-requires
+    row-ok-requires
     returns)

@@ -1,0 +1,195 @@
+// One booking: what it must meet by itself, what its code covers, and when two of a seat clash.
+ghost use mathlib.Core.Path.{_≡_};
+ghost use Prim.Native.Nat.{_-_, _*_, _≤_};
+ghost use Rattle.refusals.specs.Refusals.{firstOf};
+ghost use Rattle.bookings.specs.Bookings.{badBookedUser, badTimeslot, badCode, formRefusals, formOf, leavesOf, leaf, sameDirection, clash, comes, fine, breaksBeacon};
+use timeslots::Direction;
+
+// A booking of a seat. Its numbers were tested when it was booked, so they are kept in a byte each.
+pub struct Booking {
+    pub timeslot: u8,
+    pub direction: Direction,
+    pub burst: u8,
+    pub factor: u8,
+    pub index: u8,
+    pub user: u8,
+    pub tfci: u8,
+    pub tpc: u8,
+}
+
+// Refusal 4, in a booking.
+pub fn bad_booked_user(burst: u32, user: u32) -> bool
+    ensures { λ r. ⌜ r ≡ badBookedUser burst user ⌝ }
+{
+    if burst == 2 {
+        return (user < 1) | (user > 6);
+    }
+    (user < 1) | (user > 16)
+}
+
+// Refusal 5.
+pub fn bad_timeslot(timeslot: u32) -> bool
+    ensures { λ r. ⌜ r ≡ badTimeslot timeslot ⌝ }
+{
+    timeslot > 14
+}
+
+// Refusal 6, of a code.
+pub fn bad_code(factor: u32, index: u32) -> bool
+    ensures { λ r. ⌜ r ≡ badCode factor index ⌝ }
+{
+    let f = timeslots::bad_factor(factor);
+    f | ((index < 1) | (index > factor))
+}
+
+// The first of the refusals 2 and 4 to 8 that a booking's own numbers get, or 0.
+pub fn form_refusal(
+    timeslot: u32,
+    direction: Direction,
+    burst: u32,
+    factor: u32,
+    index: u32,
+    user: u32,
+    tfci: u32,
+    tpc: u32,
+) -> u32
+    ensures { λ r. ⌜ r ≡ firstOf (formRefusals timeslot direction burst factor index user tfci tpc) ⌝ }
+{
+    let two = refusals::bad_type(burst);
+    let four = bad_booked_user(burst, user);
+    let five = bad_timeslot(timeslot);
+    let code = bad_code(factor, index);
+    let down = timeslots::bad_down_factor(direction, factor);
+    let seven = timeslots::bad_down_type(direction, burst);
+    let eight = timeslots::bad_control(direction, tfci, tpc);
+    let n = refusals::or_refused(0, 2, two);
+    let n = refusals::or_refused(n, 4, four);
+    let n = refusals::or_refused(n, 5, five);
+    let n = refusals::or_refused(n, 6, code | down);
+    let n = refusals::or_refused(n, 7, seven);
+    refusals::or_refused(n, 8, eight)
+}
+
+// The same of a booking that is in a book.
+pub fn form_of(x: Booking) -> u32
+    ensures { λ r. ⌜ r ≡ formOf x ⌝ }
+{
+    let direction = x.direction;
+    form_refusal(
+        x.timeslot as u32,
+        direction,
+        x.burst as u32,
+        x.factor as u32,
+        x.index as u32,
+        x.user as u32,
+        x.tfci as u32,
+        x.tpc as u32,
+    )
+}
+
+// How many leaves a code of this factor covers; none for factor 0, which is no factor. The five factors need no division.
+pub fn leaves_of(factor: u8) -> u32
+    ensures { λ r. ⌜ (r ≡ leavesOf factor) × (r ≤ 16) ⌝ }
+{
+    match factor {
+        0 => 0,
+        1 => 16,
+        2 => 8,
+        4 => 4,
+        8 => 2,
+        16 => 1,
+        _ => (16 / factor) as u32,
+    }
+}
+
+// The first leaf of the code with this index, where each code covers so many.
+fn leaf_at(index: u8, leaves: u32) -> u32
+    requires { ⌜ leaves ≤ 16 ⌝ }
+    ensures { λ r. ⌜ (r ≡ (index - 1) * leaves) × (r ≤ 4080) ⌝ }
+{
+    if index == 0 {
+        0
+    } else {
+        ((index - 1) as u32) * leaves
+    }
+}
+
+pub fn same_direction(d: Direction, e: Direction) -> bool
+    ensures { λ r. ⌜ r ≡ sameDirection d e ⌝ }
+{
+    let down = timeslots::is_down(e);
+    match d {
+        Direction::Up => !down,
+        Direction::Down => down,
+    }
+}
+
+// Whether two bookings clash whose codes cover m leaves from a, and n leaves from b.
+fn clash_over(x: Booking, y: Booking, a: u32, m: u32, b: u32, n: u32) -> bool
+    requires { ⌜ (a ≡ leaf x) × (m ≡ leavesOf (x .factor)) × (b ≡ leaf y) × (n ≡ leavesOf (y .factor)) × (a ≤ 4080) × (m ≤ 16) × (b ≤ 4080) × (n ≤ 16) ⌝ }
+    ensures { λ r. ⌜ r ≡ clash x y ⌝ }
+{
+    let dx = x.direction;
+    let dy = y.direction;
+    let same = same_direction(dx, dy);
+    let over = (a < b + n) & (b < a + m);
+    (x.timeslot == y.timeslot) & (!same | (!(x.burst == y.burst) | over))
+}
+
+// Whether two bookings of one seat clash.
+pub fn clashing(x: Booking, y: Booking) -> bool
+    ensures { λ r. ⌜ r ≡ clash x y ⌝ }
+{
+    let m = leaves_of(x.factor);
+    let n = leaves_of(y.factor);
+    let a = leaf_at(x.index, m);
+    let b = leaf_at(y.index, n);
+    clash_over(x, y, a, m, b, n)
+}
+
+// Whether x comes before y in a list, where their codes begin at the leaves a and b.
+fn comes_over(x: Booking, y: Booking, a: u32, b: u32) -> bool
+    requires { ⌜ (a ≡ leaf x) × (b ≡ leaf y) × (a ≤ 4080) × (b ≤ 4080) ⌝ }
+    ensures { λ r. ⌜ r ≡ comes x y ⌝ }
+{
+    (x.timeslot as u32) * 16 + a < (y.timeslot as u32) * 16 + b
+}
+
+// Whether x comes before y in a list.
+pub fn comes_before(x: Booking, y: Booking) -> bool
+    ensures { λ r. ⌜ r ≡ comes x y ⌝ }
+{
+    let m = leaves_of(x.factor);
+    let n = leaves_of(y.factor);
+    let a = leaf_at(x.index, m);
+    let b = leaf_at(y.index, n);
+    comes_over(x, y, a, b)
+}
+
+// Whether x may stand before y.
+pub fn fine_pair(x: Booking, y: Booking) -> bool
+    ensures { λ r. ⌜ r ≡ fine x y ⌝ }
+{
+    let m = leaves_of(x.factor);
+    let n = leaves_of(y.factor);
+    let a = leaf_at(x.index, m);
+    let b = leaf_at(y.index, n);
+    let before = comes_over(x, y, a, b);
+    let clash = clash_over(x, y, a, m, b, n);
+    before & !clash
+}
+
+// Whether a booking in a beacon timeslot breaks one of the rules (a) to (f).
+pub fn breaks_beacon(x: Booking) -> bool
+    ensures { λ r. ⌜ r ≡ breaksBeacon x ⌝ }
+{
+    let d = x.direction;
+    let down = timeslots::is_down(d);
+    let first = (x.factor == 16) & (x.index == 1);
+    let a = !down | !(x.burst == 1);
+    let b = first & !(x.user == 1);
+    let c = (x.user == 1) & !first;
+    let e = (x.user == 9) | (x.user == 10);
+    let f = (x.factor == 1) & (x.index == 1);
+    a | (b | (c | ((x.user == 2) | (e | f))))
+}

@@ -1,0 +1,80 @@
+-- Neighbours: a loop that tests them, and that they are enough: for a relation that is transitive among those that pass a test, a chain of neighbours is a relation of all pairs. Cited by the crate seats.
+-- Assumes nothing.
+use mathlib.Core.Path.{_≡_, refl, sym, ap, _∙_}
+use mathlib.Core.Logic.{⊎-elim}
+use mathlib.Core.Bool.{Bool, true, false, _&&_, and-false, and-assoc}
+use mathlib.Core.List.{List, [], _∷_}
+use Prim.Native.Nat.{ℕ, _+_, _≤_, _<_}
+use native.Mathlib.Omega.{arith}
+use lib.Dec.{ltb}
+use lib.ListN.{length, take, drop, getD}
+use borrow.Author.Tests.{ltb-true, ltb-false}
+use Rattle.laws.specs.Lists.{every, pairs, chain}
+use Rattle.laws.proofs.Bools.{and-true}
+use Rattle.laws.proofs.Lists.{by-cases, hd, tl, cons}
+use Rattle.laws.proofs.Rows.{left-none, left-one}
+
+and-unit : (b : Bool) → (b && true) ≡ b
+and-unit true = refl
+and-unit false = refl
+
+-- A loop that asks of the first n whether each stands in the relation to its neighbour: what was passed does, and the rest is to be tested.
+module _ {A : Type 0} (R : A → A → Bool) (xs : List A) (n i : ℕ) (d : A) where
+  pub chain-turn : (ok h w : Bool) → i + 1 < n → n ≤ length xs → (ok && chain R (drop i (take n xs))) ≡ w → h ≡ R (getD xs i d) (getD xs (i + 1) d)
+      → ((ok && h) && chain R (drop (i + 1) (take n xs))) ≡ w
+  unfolding chain
+  chain-turn ok h w lt fit inv e =
+      let x = getD xs i d in
+      let y = getD xs (i + 1) d in
+      let first : drop i (take n xs) ≡ x ∷ drop (i + 1) (take n xs) = left-one xs n i d (omega arith) fit in
+      let second : drop (i + 1) (take n xs) ≡ y ∷ drop (i + 1 + 1) (take n xs) = left-one xs n (i + 1) d lt fit in
+      let step : chain R (drop i (take n xs)) ≡ (R x y && chain R (drop (i + 1) (take n xs))) =
+      ap (chain R) (first ∙ ap (λ (l : List A). x ∷ l) second) ∙ ap (λ (l : List A). R x y && chain R l) (sym second) in
+      and-assoc ok h _ ∙ ap (λ (b : Bool). ok && (b && chain R (drop (i + 1) (take n xs)))) e ∙ ap (λ (b : Bool). ok && b) (sym step) ∙ inv
+
+  -- one at most is left, and has no neighbour
+  last : n ≤ i + 1 → n ≤ length xs → chain R (drop i (take n xs)) ≡ true
+  unfolding chain
+  last le fit =
+      ⊎-elim
+      (λ t. ap (chain R) (left-one xs n i d (ltb-true i n t) fit ∙ ap (λ (l : List A). getD xs i d ∷ l) (left-none xs n (i + 1) le)))
+      (λ f. ap (chain R) (left-none xs n i (ltb-false i n f)))
+      (by-cases (ltb i n))
+
+  pub chain-ended : (ok w : Bool) → n ≤ i + 1 → n ≤ length xs → (ok && chain R (drop i (take n xs))) ≡ w → ok ≡ w
+  chain-ended ok w le fit inv = sym (and-unit ok) ∙ ap (λ (b : Bool). ok && b) (sym (last le fit)) ∙ inv
+
+-- ---- neighbours are enough
+
+module _ {A : Type 0} (R : A → A → Bool) (p : A → Bool)
+    (trans : (x y z : A) → p x ≡ true → p y ≡ true → p z ≡ true → R x y ≡ true → R y z ≡ true → R x z ≡ true) where
+  later : (x y : A) (l : List A) → p x ≡ true → p y ≡ true → every p l ≡ true → R x y ≡ true → every (R y) l ≡ true → every (R x) l ≡ true
+  unfolding every
+  later x y [] hx hy hl r e = refl
+  later x y (z ∷ l) hx hy hl r e =
+      cons (R x) z l (trans x y z hx hy (hd p z l hl) r (hd (R y) z l e)) (later x y l hx hy (tl p z l hl) r (tl (R y) z l e))
+
+  pub chain-pairs : (l : List A) → every p l ≡ true → chain R l ≡ pairs R l
+  unfolding every pairs chain
+  chain-pairs [] e = refl
+  chain-pairs (x ∷ []) e = refl
+  chain-pairs (x ∷ y ∷ l) e =
+      ap (λ (b : Bool). R x y && b) (chain-pairs (y ∷ l) (tl p x (y ∷ l) e))
+      ∙ ⊎-elim all-true (λ f. rw f (and-false (R x y) ∙ sym (and-false (R x y && every (R x) l)))) (by-cases (pairs R (y ∷ l)))
+    where
+      both-sides : Type 0
+      both-sides = (R x y && pairs R (y ∷ l)) ≡ ((R x y && every (R x) l) && pairs R (y ∷ l))
+
+      stands : pairs R (y ∷ l) ≡ true → R x y ≡ true → both-sides
+      stands t r =
+          let o = and-true (every (R y) l) (pairs R l) t in
+          let px = hd p x (y ∷ l) e in
+          let pl = tl p x (y ∷ l) e in
+          let rest : every (R x) l ≡ true = later x y l px (hd p y l pl) (tl p y l pl) r (o .0) in
+          simp (rest, r)
+
+      falls : R x y ≡ false → both-sides
+      falls r = simp r
+
+      all-true : pairs R (y ∷ l) ≡ true → both-sides
+      all-true t = ⊎-elim (stands t) falls (by-cases (R x y))

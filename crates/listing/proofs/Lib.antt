@@ -1,0 +1,5 @@
+pub mod Written
+pub mod Answered
+pub mod Counted
+pub mod Handed
+pub mod Unique

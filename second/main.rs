@@ -2,16 +2,28 @@
 //! order) and the line format of docs/COMPARISON.md, without sight of the proved library. It prints what the proved
 //! library's own programs print, and `./test` compares the two byte by byte.
 //!
-//! The rules stand here as naively as they stand in document 01; a module is a chapter of it.
+//! The rules stand here as naively as they stand in document 01; a module is a chapter of it. It also answers lessons as
+//! docs/LESSONS.md has them, and makes random ones for both programs to answer.
 //!
 //! Build: `rustc --edition 2021 -O second/main.rs -o second-program`
 
 mod beacons;
+mod book;
+mod book_print;
+mod bookings;
+mod calls;
+mod dice;
 mod digest;
+mod lesson;
 mod midambles;
+mod moods;
+mod noise;
 mod paging;
+mod questions;
+mod random;
 mod refusals;
 mod rows;
+mod scribbles;
 mod selftest;
 mod timeslots;
 
@@ -27,6 +39,11 @@ second: the independent program that the proved library is compared with
   second timeslots              the section `timeslots`
   second beacons                the section `beacons`
   second paging                 the section `paging`
+  second book                   the section `book`
+  second lesson                 answers standard input as docs/LESSONS.md says
+  second random SEED LINES      a random lesson of that many lines; SEED mod 7 is its mood: 0 modest, 1 damaged,
+                                2 greedy, 3 busy, 4 beacons, 5 scribbled, 6 changing
+  second noise SEED BYTES       that many random bytes for the input of a lesson
   second rows-from SOURCE_FILE  the rows read from the scanned source 004, as in second/rows-004.txt
   second selftest               document 01's figures to check; exit 1 if one is wrong
   second --help                 this page
@@ -42,7 +59,7 @@ enum Failure {
 
 impl From<io::Error> for Failure {
     fn from(error: io::Error) -> Failure {
-        Failure::Work(format!("standard output: {error}"))
+        Failure::Work(format!("standard input or output: {error}"))
     }
 }
 
@@ -72,6 +89,24 @@ fn run(words: &[&str]) -> Result<(), Failure> {
         ["timeslots"] => timeslots::print(&mut out)?,
         ["beacons"] => beacons::print(&mut out)?,
         ["paging"] => paging::print(&mut out)?,
+        ["book"] => book_print::print(&mut out)?,
+        ["lesson"] => lesson::run(&mut io::stdin().lock(), &mut out, &kept_rows()?)?,
+        ["random", seed, lines] => {
+            random::print(&mut out, number(seed)?, number(lines)?, &kept_rows()?)?
+        }
+        ["random", ..] => {
+            return Err(Failure::Words(
+                "random takes two words, a seed and a number of lines".to_string(),
+            ))
+        }
+        ["noise", seed, bytes] => {
+            noise::print(&mut out, number(seed)?, number(bytes)?, &kept_rows()?)?
+        }
+        ["noise", ..] => {
+            return Err(Failure::Words(
+                "noise takes two words, a seed and a number of bytes".to_string(),
+            ))
+        }
         ["rows-from", source] => out.write_all(rows_from(source)?.as_bytes())?,
         ["rows-from", ..] => {
             return Err(Failure::Words(
@@ -87,7 +122,8 @@ fn run(words: &[&str]) -> Result<(), Failure> {
                 ));
             }
         }
-        ["--help" | "midambles" | "timeslots" | "beacons" | "paging" | "selftest", ..] => {
+        ["--help" | "midambles" | "timeslots" | "beacons" | "paging" | "book" | "lesson"
+        | "selftest", ..] => {
             return Err(Failure::Words(format!(
                 "{} takes no further word",
                 words[0]
@@ -97,6 +133,12 @@ fn run(words: &[&str]) -> Result<(), Failure> {
     }
     out.flush()?;
     Ok(())
+}
+
+/// A number of the command line.
+fn number(word: &str) -> Result<u64, Failure> {
+    word.parse()
+        .map_err(|_| Failure::Words(format!("{word:?} is no number")))
 }
 
 /// The rows of `rows-004.txt`.

@@ -5,6 +5,36 @@
 /// What a call gives back: a value, or the number of the refusal.
 pub type Answer<T> = Result<T, u32>;
 
+/// The table's column "Condition", from number 1 on.
+const CONDITIONS: [&str; 21] = [
+    "cell parameter above 127",
+    "burst type not 1, 2 or 3",
+    "midamble count not 8 or 16 (types 1, 3), not 3 or 6 (type 2); in opening a seat 0 is allowed too",
+    "user outside 1..count (in a booking: outside 1..16 for types 1, 3; 1..6 for type 2)",
+    "timeslot above 14",
+    "spreading factor not 1, 2, 4, 8, 16; code index outside 1..factor; where a direction is given, downlink with a factor other than 1 or 16",
+    "type 3 in downlink",
+    "TFCI bits not 0, 4, 8, 16, 32; TPC bits not 0 or 2; TPC 2 in downlink",
+    "synchronisation case not 1 or 2; k above 14 (case 1) or above 6 (case 2)",
+    "PICH with type 3; indicator length not 2, 4, 8; frames per block outside 1..4; indicator number too large; paging bit outside the 244 or 276; timeslot chip above 2559; midamble chip outside 1 to its length",
+    "lent memory, read or written, shorter than the call needs (a list: fewer than 40 records, however few it writes)",
+    "the book breaks its conditions",
+    "seat above 15",
+    "seat not open",
+    "seat open already",
+    "user above this seat's count",
+    "clash inside this seat's own cell",
+    "beacon rule",
+    "seat holds 40",
+    "common room used up",
+    "no such booking",
+];
+
+/// The table's words for a refusal number.
+pub fn condition(number: u32) -> &'static str {
+    CONDITIONS[number as usize - 1]
+}
+
 /// Refuses with `number` if the condition of that number holds.
 pub fn refuse_if(condition: bool, number: u32) -> Answer<()> {
     if condition {

@@ -1,10 +1,12 @@
-//! Document 01, "Figures to check": those of the midambles, timeslots, beacons and paging, and the few facts that the
-//! chapters state beside their rules.
+//! Document 01, "Figures to check", and the few facts that the chapters state beside their rules.
 
 use crate::beacons::{beacon_timeslots, words};
+use crate::book::{Book, Record, Settings, MOST_OF_A_SEAT};
+use crate::book_print::plain;
+use crate::lesson::NO_BOOKING;
 use crate::midambles::{family, least_shift, one_chip, shift};
 use crate::paging::{indicator, owner, owner_words, place_words};
-use crate::refusals::in_words;
+use crate::refusals::{in_words, Answer};
 use crate::rows::Rows;
 use crate::timeslots::{timeslot, Direction, Part, Question, Timeslot, CHIPS};
 use std::collections::HashSet;
@@ -51,6 +53,9 @@ fn figures(rows: &Rows) -> Vec<Figure> {
     figures.extend(timeslot_figures());
     figures.extend(beacon_figures());
     figures.extend(paging_figures());
+    figures.extend(seat_3_figures());
+    figures.extend(room_figures());
+    figures.extend(damaged_book_figures());
     figures
 }
 
@@ -264,4 +269,148 @@ fn paging_figures() -> Vec<Figure> {
             "q 0",
         ),
     ]
+}
+
+/// `ok` or `refused N`.
+fn reply(answer: Answer<()>) -> String {
+    in_words(answer, |()| "ok".to_string())
+}
+
+/// Cell 0, counts 0, case 1, k 0.
+const CELL_0: Settings = Settings {
+    cell: 0,
+    case: 1,
+    k: 0,
+    long_count: 0,
+    short_count: 0,
+};
+
+/// Seat 3 of the figures, after its two bookings.
+fn seat_3() -> Answer<Book> {
+    let mut book = Book::empty();
+    book.open(3, CELL_0)?;
+    book.book(3, plain(2, Direction::Down, 3, 4))?;
+    book.book(3, plain(0, Direction::Down, 1, 1))?;
+    Ok(book)
+}
+
+/// `(0, down, ..), (2, down, ..); count 2`, as document 01 writes it.
+fn list_words(lent: &[Record], written: usize) -> String {
+    let records: Vec<String> = lent[..written]
+        .iter()
+        .map(|record| format!("({})", record.words().replace(' ', ", ")))
+        .collect();
+    format!("{}; count {written}", records.join(", "))
+}
+
+/// Seat 3's list, in 45 lent records and in 39.
+fn seat_3_figures() -> Vec<Figure> {
+    let book = seat_3().expect("seat 3's calls are accepted");
+    let mut lent = [NO_BOOKING; MOST_OF_A_SEAT + 5];
+    let written = book.list_into(3, &mut lent).unwrap_or(0);
+    let untouched = lent.iter().filter(|record| **record == NO_BOOKING).count();
+    let mut too_short = [NO_BOOKING; MOST_OF_A_SEAT - 1];
+    let refused = book.list_into(3, &mut too_short);
+    let settings = in_words(book.settings(3), |kept| {
+        let Settings {
+            cell,
+            case,
+            k,
+            long_count,
+            short_count,
+        } = kept;
+        format!("{cell}, {case}, {k}, {long_count}, {short_count}")
+    });
+    vec![
+        figure(
+            "seat 3, the list",
+            list_words(&lent, written),
+            "(0, down, 1, 16, 1, 1, 0, 0), (2, down, 1, 16, 3, 4, 0, 0); count 2",
+        ),
+        figure("seat 3, records left untouched", untouched, 43),
+        figure(
+            "seat 3, a list in 39 records",
+            reply(refused.map(|_| ())),
+            "refused 11",
+        ),
+        figure(
+            "seat 3, cell, case, k and counts",
+            settings,
+            "0, 1, 0, 16, 6",
+        ),
+    ]
+}
+
+/// Makes the first so many of a row of bookings: how many the seat holds then, and the answer to the last.
+fn fill(book: &mut Book, seat: u32, most: u32) -> (usize, String) {
+    let mut last = Ok(());
+    for place in 0..most {
+        last = book.book(
+            seat,
+            plain(1 + place % 14, Direction::Up, 1 + place / 14, 1),
+        );
+    }
+    (
+        book.list(seat).map_or(0, |listed| listed.len()),
+        reply(last),
+    )
+}
+
+/// "Three seats hold 40, 40 and 30, nobody else any: those at 40 get 19, the third gets 20, and an empty seat still books
+/// 10."
+fn room_figures() -> Vec<Figure> {
+    let mut book = Book::empty();
+    for seat in [0, 1, 2, 3] {
+        book.open(seat, CELL_0).expect("these seats are opened");
+    }
+    let filled = [(0, 40), (1, 40), (2, 30)].map(|(seat, most)| fill(&mut book, seat, most));
+    let holdings = filled.map(|(held, last)| format!("{held} {last}"));
+    let next = [0, 1, 2].map(|seat| reply(book.book(seat, plain(9, Direction::Up, 9, 9))));
+    let (held, eleventh) = fill(&mut book, 3, 11);
+    let freed = book.cancel(1, 1, 16, 1);
+    let (held_then, twelfth) = fill(&mut book, 3, 12);
+    vec![
+        figure(
+            "three seats hold",
+            holdings.join(", "),
+            "40 ok, 40 ok, 30 ok",
+        ),
+        figure(
+            "and their next booking gets",
+            next.join(", "),
+            "refused 19, refused 19, refused 20",
+        ),
+        figure("an empty seat still books", held, 10),
+        figure("and its eleventh gets", eleventh, "refused 20"),
+        figure(
+            "room set free by cancel counts at once",
+            format!("{}, {held_then}, {twelfth}", reply(freed)),
+            "ok, 11, refused 20",
+        ),
+    ]
+}
+
+/// Refusal 12 stands after those of the numbers given and before those of the book.
+fn damaged_book_figures() -> Vec<Figure> {
+    let mut book = seat_3().expect("seat 3's calls are accepted");
+    book.damaged = true;
+    let mut lent = [NO_BOOKING; MOST_OF_A_SEAT];
+    let answers = [
+        book.open(16, Settings { k: 15, ..CELL_0 }),
+        book.open(16, CELL_0),
+        book.book(16, plain(15, Direction::Up, 1, 1)),
+        book.book(16, plain(2, Direction::Down, 3, 4)),
+        book.cancel(16, 2, 16, 17),
+        book.cancel(16, 2, 16, 3),
+        book.close(16),
+        book.list_into(16, &mut lent[1..]).map(|_| ()),
+        book.list_into(16, &mut lent).map(|_| ()),
+    ];
+    vec![figure(
+        "calls on a damaged book",
+        answers
+            .map(|answer| answer.map_or_else(|number| number, |()| 0).to_string())
+            .join(", "),
+        "9, 12, 5, 12, 6, 12, 12, 11, 12",
+    )]
 }

@@ -7,6 +7,9 @@ use std::io::{self, Write};
 /// Chips of a timeslot.
 pub const CHIPS: usize = 2560;
 
+/// The timeslots of a frame are 0 to 14.
+pub const LAST_TIMESLOT: u32 = 14;
+
 /// The field lengths, burst type by field: data 1, midamble, data 2, guard.
 const FIELDS: [[usize; 4]; 3] = [
     [976, 512, 976, 96],
@@ -22,7 +25,8 @@ pub enum Direction {
 }
 
 impl Direction {
-    fn word(self) -> &'static str {
+    /// The direction's word.
+    pub fn word(self) -> &'static str {
         match self {
             Direction::Up => "up",
             Direction::Down => "down",
@@ -128,6 +132,23 @@ impl Timeslot {
     }
 }
 
+/// Refusal 6, the spreading factor by itself.
+pub fn refuse_bad_factor(factor: u32) -> Answer<()> {
+    refuse_if(![1, 2, 4, 8, 16].contains(&factor), 6)
+}
+
+/// Refusal 7: type 3 in downlink.
+pub fn refuse_downlink_type_3(burst_type: u32, direction: Direction) -> Answer<()> {
+    refuse_if(burst_type == 3 && direction == Direction::Down, 7)
+}
+
+/// Refusal 8: the TFCI and TPC bits.
+pub fn refuse_bad_control(direction: Direction, tfci_bits: u32, tpc_bits: u32) -> Answer<()> {
+    refuse_if(![0, 4, 8, 16, 32].contains(&tfci_bits), 8)?;
+    refuse_if(![0, 2].contains(&tpc_bits), 8)?;
+    refuse_if(tpc_bits == 2 && direction == Direction::Down, 8)
+}
+
 /// Refusals 2, 6 (factor and direction only), 7, 8.
 fn refusals(question: &Question) -> Answer<()> {
     let Question {
@@ -139,12 +160,10 @@ fn refusals(question: &Question) -> Answer<()> {
     } = *question;
     let down = direction == Direction::Down;
     refuse_unknown_type(burst_type)?;
-    refuse_if(![1, 2, 4, 8, 16].contains(&factor), 6)?;
+    refuse_bad_factor(factor)?;
     refuse_if(down && ![1, 16].contains(&factor), 6)?;
-    refuse_if(burst_type == 3 && down, 7)?;
-    refuse_if(![0, 4, 8, 16, 32].contains(&tfci_bits), 8)?;
-    refuse_if(![0, 2].contains(&tpc_bits), 8)?;
-    refuse_if(tpc_bits == 2 && down, 8)
+    refuse_downlink_type_3(burst_type, direction)?;
+    refuse_bad_control(direction, tfci_bits, tpc_bits)
 }
 
 /// "A symbol is 2 bits (QPSK only)": the chips of a run of bits.
@@ -231,26 +250,31 @@ fn parts_questions() -> Vec<Question> {
     questions
 }
 
-/// `timeslots` 1: seven START+LENGTH, `bits B1 B2`, `chips D`.
-fn parts_words(slot: &Timeslot) -> String {
+/// Seven START+LENGTH and `bits B1 B2`.
+pub fn parts_words(slot: &Timeslot) -> String {
     let mut words = String::new();
     for Stretch { start, length } in &slot.parts {
         words.push_str(&format!("{start}+{length} "));
     }
     let [bits_1, bits_2] = slot.data_bits;
+    words.push_str(&format!("bits {bits_1} {bits_2}"));
+    words
+}
+
+/// `timeslots` 1: the same with `chips D`.
+fn parts_and_chips_words(slot: &Timeslot) -> String {
     let digest = digest(
         slot.chips
             .iter()
             .flat_map(|label| [label.part.number(), label.number as u64]),
     );
-    words.push_str(&format!("bits {bits_1} {bits_2} chips {digest}"));
-    words
+    format!("{} chips {digest}", parts_words(slot))
 }
 
 /// `timeslots` 1.
 fn print_parts(out: &mut dyn Write) -> io::Result<()> {
     for question in parts_questions() {
-        let answer = in_words(timeslot(&question), |slot| parts_words(&slot));
+        let answer = in_words(timeslot(&question), |slot| parts_and_chips_words(&slot));
         writeln!(out, "parts {}: {answer}", question.words())?;
     }
     Ok(())
@@ -311,13 +335,16 @@ fn chip_questions() -> Vec<(Question, Vec<u32>)> {
     ]
 }
 
+/// The part's word and the offset or symbol number.
+pub fn label_words(label: Label) -> String {
+    format!("{} {}", label.part.word(), label.number)
+}
+
 /// `timeslots` 2.
 fn print_chips(out: &mut dyn Write) -> io::Result<()> {
     for (question, chips) in chip_questions() {
         for chip in chips {
-            let answer = in_words(at(&question, chip), |label| {
-                format!("{} {}", label.part.word(), label.number)
-            });
+            let answer = in_words(at(&question, chip), label_words);
             writeln!(out, "at {} {chip}: {answer}", question.words())?;
         }
     }

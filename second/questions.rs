@@ -1,0 +1,133 @@
+//! Random calls beside the class book's, for random lessons: each word is within the rules, but that some words of page
+//! and read are too short or too long.
+
+use crate::dice::Dice;
+
+/// A random call of chip, midamble, parts, at, beacon, indicator, page, read, owner. There is no `help` in it: the two
+/// programs need not agree on its reply.
+pub fn question(dice: &mut Dice) -> String {
+    let ask = dice.pick_by_weight(&[
+        (2, chip as fn(&mut Dice) -> String),
+        (1, midamble),
+        (2, parts),
+        (4, at),
+        (2, beacon),
+        (3, indicator),
+        (3, page),
+        (3, read),
+        (3, owner),
+    ]);
+    ask(dice)
+}
+
+/// CELL TYPE COUNT USER, and the midamble's length.
+fn user_of_a_cell(dice: &mut Dice) -> (String, u32) {
+    let cell = dice.below(128);
+    let burst_type = dice.between(1, 3);
+    let (counts, length) = if burst_type == 2 {
+        ([3, 6], 256)
+    } else {
+        ([8, 16], 512)
+    };
+    let count = dice.pick(&counts);
+    let user = dice.between(1, count);
+    (format!("{cell} {burst_type} {count} {user}"), length)
+}
+
+fn chip(dice: &mut Dice) -> String {
+    let (user, length) = user_of_a_cell(dice);
+    format!("chip {user} {}", dice.between(1, length))
+}
+
+fn midamble(dice: &mut Dice) -> String {
+    format!("midamble {}", user_of_a_cell(dice).0)
+}
+
+/// TYPE up|down FACTOR TFCI TPC.
+fn burst(dice: &mut Dice) -> String {
+    let tfci_bits = dice.pick(&[0, 4, 8, 16, 32]);
+    if dice.one_in(2) {
+        let burst_type = dice.between(1, 3);
+        let factor = dice.pick(&[1, 2, 4, 8, 16]);
+        let tpc_bits = dice.pick(&[0, 2]);
+        format!("{burst_type} up {factor} {tfci_bits} {tpc_bits}")
+    } else {
+        let burst_type = dice.between(1, 2);
+        let factor = dice.pick(&[1, 16]);
+        format!("{burst_type} down {factor} {tfci_bits} 0")
+    }
+}
+
+fn parts(dice: &mut Dice) -> String {
+    format!("parts {}", burst(dice))
+}
+
+fn at(dice: &mut Dice) -> String {
+    let burst = burst(dice);
+    let chip = dice.below(2560);
+    format!("at {burst} {chip}")
+}
+
+fn beacon(dice: &mut Dice) -> String {
+    if dice.one_in(2) {
+        format!("beacon 1 {}", dice.below(15))
+    } else {
+        format!("beacon 2 {}", dice.below(7))
+    }
+}
+
+/// TYPE L, the indicators of a timeslot, and the bits of the burst.
+fn pich(dice: &mut Dice) -> (String, u32, u32) {
+    let (burst_type, carrying_bits) = dice.pick(&[(1, 240), (2, 272)]);
+    let length = dice.pick(&[2, 4, 8]);
+    (
+        format!("{burst_type} {length}"),
+        carrying_bits / (2 * length),
+        carrying_bits + 4,
+    )
+}
+
+fn indicator(dice: &mut Dice) -> String {
+    let (pich, indicators, _) = pich(dice);
+    let frames = dice.between(1, 4);
+    let number = dice.below(indicators * frames);
+    format!("indicator {pich} {frames} {number}")
+}
+
+fn owner(dice: &mut Dice) -> String {
+    let (pich, _, bits) = pich(dice);
+    format!("owner {pich} {}", dice.below(bits))
+}
+
+/// A word's length: mostly the right one, else a little or much too short or too long.
+fn length_of_word(dice: &mut Dice, right: u32) -> u32 {
+    match dice.below(10) {
+        0 => right - 1,
+        1 => right + 1,
+        2 => dice.between(1, right),
+        3 => dice.between(right, 900),
+        _ => right,
+    }
+}
+
+fn page(dice: &mut Dice) -> String {
+    let (pich, indicators, _) = pich(dice);
+    let length = length_of_word(dice, indicators);
+    format!("page {pich} {}", dice.binary_digits(length))
+}
+
+/// Bits that are all alike but for a few, so that indicators are off, on and torn.
+fn read(dice: &mut Dice) -> String {
+    let (pich, _, bits) = pich(dice);
+    let length = length_of_word(dice, bits);
+    let mut digits = dice.pick(&["0", "1"]).repeat(length as usize);
+    if dice.one_in(4) {
+        digits = dice.binary_digits(length);
+    }
+    for _ in 0..dice.below(12) {
+        let place = dice.place(digits.len());
+        let digit = dice.pick(&["0", "1"]);
+        digits.replace_range(place..place + 1, digit);
+    }
+    format!("read {pich} {digits}")
+}

@@ -1,8 +1,7 @@
 -- `seats::seat::row_ok` meets its contract: what was passed holds, and the rest is to be tested; one that fails decides.
 -- Assumes nothing.
-use mathlib.Core.Path.{_≡_, refl, sym, _∙_}
-use mathlib.Core.Bool.{Bool, true, false, _&&_}
-use mathlib.Core.List.{List}
+use mathlib.Core.Path.{_≡_, refl, sym}
+use mathlib.Core.Bool.{true, _&&_}
 use Prim.Native.Nat.{_+_, _-_, _≤_}
 use native.Mathlib.Omega.{arith}
 use borrow.Author.Needs.{needs}
@@ -12,7 +11,6 @@ use Rattle.laws.specs.Lists.{every, chain}
 use Rattle.laws.proofs.Bools.{fails-first, fails-second, last-decides}
 use Rattle.laws.proofs.Rows.{turn, ended, left-turn, left-ended, goes-on, stops}
 use Rattle.laws.proofs.Neighbours.{chain-turn, chain-ended}
-use Rattle.bookings.specs.declared.Booking.{Booking}
 use Rattle.bookings.specs.Bookings.{fine}
 use Rattle.seats.specs.Seats.{blank, isBlank, stands}
 use Rattle.seats.proofs.seat.row_ok.Statement.{statement}

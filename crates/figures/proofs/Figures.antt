@@ -1,0 +1,40 @@
+-- Document 01: "The starred figures are proved as rows of a single table of the definitions with one claim." The table is specs/Figures.antt; this is the claim, by computation.
+-- Assumes nothing.
+use mathlib.Core.Path.{_≡_, refl}
+use mathlib.Core.List.{map}
+use Rattle.laws.specs.Runs.{run}
+use Rattle.laws.specs.Lists.{every, pairs, total}
+use Rattle.refusals.specs.Refusals.{firstOf, answer, after, badType}
+use Rattle.rows.specs.LongText.{longText}
+use Rattle.rows.specs.Rows.{longRows, bitAt}
+use Rattle.midambles.specs.TrainingSequences.{codeOf, rowsOf, turned, basic, element, shiftOf, chipOf, chipsOf}
+use Rattle.midambles.specs.Calls.{badCell, badCount, badUser, badChip, tooShort, userRefusals, chipRefusals, midambleRefusals, chipAnswer, midambleOutcome}
+use Rattle.timeslots.specs.Conditions.{isDown, badFactor, badDownFactor, badDownType, badControl}
+use Rattle.timeslots.specs.Timeslots.{fields, fieldLength, controlChips, chipsOf as chipsOfBits, bitsOf, partLengths, start, span, spans, sevenParts}
+use Rattle.timeslots.specs.Calls.{partsRefusals, partsAnswer}
+use Rattle.paging.specs.Paging.{carryingOf, halfOf, placeOf}
+use Rattle.paging.specs.Calls.{badPich, pichRefusals, badFrames, badNumber, indicatorRefusals, indicatorAnswer}
+use Rattle.beacons.specs.Beacons.{beaconsOf, badBeacon, isBeacon}
+use Rattle.beacons.specs.Calls.{beaconRefusals, beaconAnswer}
+use Rattle.bookings.specs.Bookings.{badBookedUser, badTimeslot, badCode, formRefusals, formOf, leavesOf, firstLeaf, overlaps, sameDirection, mixed, clash, comes, fine, beaconRules, breaksBeacon}
+use Rattle.seats.specs.Seats.{isBlank, closed, settingsRefusals, goodSettings, aboveCount, offBeacon, stands, clashesWith, isBare, seatOk, rank, insert, withPlan}
+use Rattle.classbook.specs.Book.{emptyBook, seatOf, withSeat, common, bookOk}
+use Rattle.classbook.specs.Calls.{badBook, badSeat, notOpen, isOpen, seatFull, roomUsedUp, longCount, shortCount, openRefusals, openSeat, openAnswer, asBooking, requestRefusals, bookingRefusals, bookRefusals, booked, bookAnswer, seatRefusals}
+use Rattle.listing.specs.Listing.{fewRecords, listRefusals, listOutcome}
+use Rattle.figures.specs.Figures.{Row, figures, opening, firstBooking, secondBooking}
+
+pub starred-figures : map (λ (r : Row). r .0) figures ≡ map (λ (r : Row). r .1) figures
+unfolding figures opening firstBooking secondBooking run every pairs total firstOf answer after badType
+    longText longRows bitAt codeOf rowsOf turned basic element shiftOf chipOf chipsOf
+    badCell badCount badUser badChip tooShort userRefusals chipRefusals midambleRefusals chipAnswer midambleOutcome
+    isDown badFactor badDownFactor badDownType badControl
+    fields fieldLength controlChips chipsOfBits bitsOf partLengths start span spans sevenParts partsRefusals partsAnswer
+    carryingOf halfOf placeOf badPich pichRefusals badFrames badNumber indicatorRefusals indicatorAnswer
+    beaconsOf badBeacon isBeacon beaconRefusals beaconAnswer
+    badBookedUser badTimeslot badCode formRefusals formOf leavesOf firstLeaf overlaps sameDirection mixed clash comes fine beaconRules breaksBeacon
+    isBlank closed settingsRefusals goodSettings aboveCount offBeacon stands clashesWith isBare seatOk rank insert withPlan
+    emptyBook seatOf withSeat common bookOk
+    badBook badSeat notOpen isOpen seatFull roomUsedUp longCount shortCount openRefusals openSeat openAnswer
+    asBooking requestRefusals bookingRefusals bookRefusals booked bookAnswer seatRefusals
+    fewRecords listRefusals listOutcome
+starred-figures = refl

@@ -7,17 +7,10 @@ use mathlib.Core.Logic.{_⊎_, inl, inr, ⊎-elim}
 use Prim.Native.Nat.{ℕ, _+_, _≤_}
 use native.Mathlib.Omega.{arith}
 use lib.Dec.{eqb, ltb}
-use borrow.Author.Tests.{eqb-true, eqb-false, ltb-false, ne-eqb}
+use borrow.Author.Tests.{eqb-true, ltb-false, ne-eqb}
 use Rattle.laws.proofs.Bools.{true-false, or-false}
+use Rattle.laws.proofs.Cases.{by-cases, equal-or-not}
 use Rattle.beacons.specs.Beacons.{beaconsOf, badBeacon, isBeacon}
-
--- a test is true or false
-decided : (b : Bool) → (b ≡ true) ⊎ (b ≡ false)
-decided true = inl refl
-decided false = inr refl
-
-equal-or-not : (m n : ℕ) → (m ≡ n) ⊎ (m ≡ n → ⊥)
-equal-or-not m n = ⊎-elim (λ e. inl (eqb-true m n e)) (λ e. inr (eqb-false m n e)) (decided (eqb m n))
 
 -- condition 9 in case 1, and in any other
 pub passed-one : (k : ℕ) → badBeacon 1 k ≡ false → k ≤ 14
@@ -71,11 +64,11 @@ is-beacon-listed case k t =
 -- a beacon timeslot of a case and k that are not refused is a timeslot
 within-one : (k t : ℕ) → k ≤ 14 → isBeacon 1 k t ≡ true → t ≤ 14
 unfolding isBeacon
-within-one k t h e = ⊎-elim (λ q. omega (arith, eqb-true t k q)) (λ (q : eqb t k ≡ false). true-false (sym (simp q at e))) (decided (eqb t k))
+within-one k t h e = ⊎-elim (λ q. omega (arith, eqb-true t k q)) (λ (q : eqb t k ≡ false). true-false (sym (simp q at e))) (by-cases (eqb t k))
 
 within-two : (k t : ℕ) → k ≤ 6 → isBeacon 2 k t ≡ true → t ≤ 14
 unfolding isBeacon
-within-two k t h e = ⊎-elim (λ q. omega (arith, eqb-true t k q)) (λ q. omega (arith, eqb-true t (k + 8) (simp q at e))) (decided (eqb t k))
+within-two k t h e = ⊎-elim (λ q. omega (arith, eqb-true t k q)) (λ q. omega (arith, eqb-true t (k + 8) (simp q at e))) (by-cases (eqb t k))
 
 pub is-beacon-within : (case k t : ℕ) → badBeacon case k ≡ false → isBeacon case k t ≡ true → t ≤ 14
 is-beacon-within case k t e b =

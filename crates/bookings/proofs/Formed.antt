@@ -1,22 +1,19 @@
 -- A booking whose own numbers are good: its leaves are among the 16. Cited by Order and by the crate classbook.
 -- Assumes nothing.
 use mathlib.Core.Path.{_≡_}
-use mathlib.Core.Logic.{_⊎_, inl, inr, ⊎-elim}
-use mathlib.Core.Bool.{Bool, true, false, _||_}
+use mathlib.Core.Logic.{⊎-elim}
+use mathlib.Core.Bool.{true, _||_}
 use Prim.Native.Nat.{ℕ, _-_, _*_, _/_, _≤_}
 use native.Mathlib.Omega.{arith}
 use lib.Dec.{eqb, ltb}
 use borrow.Author.Tests.{eqb-true, ltb-false, not-false}
 use Rattle.laws.proofs.Bools.{or-false}
+use Rattle.laws.proofs.Cases.{either}
 use Rattle.refusals.specs.Refusals.{badType}
 use Rattle.refusals.proofs.First.{first-none}
 use Rattle.timeslots.specs.Conditions.{badFactor, badDownFactor}
 use Rattle.bookings.specs.declared.Booking.{Booking}
 use Rattle.bookings.specs.Bookings.{badBookedUser, badTimeslot, badCode, formRefusals, formOf, leavesOf, firstLeaf, leaf}
-
-either : (a b : Bool) → (a || b) ≡ true → (a ≡ true) ⊎ (b ≡ true)
-either true b e = inl e
-either false b e = inr e
 
 -- for each of the five factors
 within : (q k : ℕ) → 1 ≤ k → k ≤ q → (eqb q 1 || eqb q 2 || eqb q 4 || eqb q 8 || eqb q 16) ≡ true → ((k - 1) * (16 / q) ≤ 15) × (1 ≤ 16 / q)

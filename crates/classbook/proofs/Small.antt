@@ -1,7 +1,7 @@
 -- Numbers that were not refused are small, so that a byte holds each. Cited by the proofs of open_seat and book_code.
 -- Assumes nothing.
 use mathlib.Core.Path.{_≡_, refl}
-use mathlib.Core.Logic.{_⊎_, inl, inr, ⊎-elim}
+use mathlib.Core.Logic.{⊎-elim}
 use mathlib.Core.Bool.{Bool, true, false, cond, not, _&&_, _||_}
 use mathlib.Core.List.{[]}
 use Prim.Native.Nat.{ℕ, _*_, _≤_}
@@ -12,6 +12,7 @@ use Rattle.laws.proofs.Bools.{or-false}
 use Rattle.refusals.specs.Refusals.{firstOf, badType}
 use Rattle.refusals.proofs.First.{first-none}
 use Rattle.timeslots.specs.Conditions.{isDown, badFactor, badDownFactor, badDownType, badControl}
+use Rattle.laws.proofs.Cases.{either}
 use Rattle.midambles.specs.Calls.{badCell, badCount}
 use Rattle.midambles.specs.TrainingSequences.{codeOf}
 use Rattle.midambles.proofs.Codes.{small}
@@ -20,10 +21,6 @@ use Rattle.bookings.specs.Bookings.{badBookedUser, badTimeslot, badCode, formRe
 use Rattle.seats.specs.Seats.{settingsRefusals}
 use Rattle.classbook.specs.declared.Request.{Request}
 use Rattle.classbook.specs.Calls.{requestRefusals}
-
-either : (a b : Bool) → (a || b) ≡ true → (a ≡ true) ⊎ (b ≡ true)
-either true b e = inl e
-either false b e = inr e
 
 -- one of two numbers, and one of five
 of-two : (n a b m : ℕ) → a ≤ m → b ≤ m → (eqb n a || eqb n b) ≡ true → n ≤ m

@@ -1,5 +1,6 @@
 pub mod Runs
 pub mod Bools
+pub mod Cases
 pub mod Lists
 pub mod Rows
 pub mod Places

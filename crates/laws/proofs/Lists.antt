@@ -1,43 +1,27 @@
 -- Tests and sums over a list in which one element is changed or put in. Cited by the proofs of the class book.
 -- Assumes nothing.
 use mathlib.Core.Path.{_≡_, refl, sym, ap, _∙_}
-use mathlib.Core.List.{List, [], _∷_, _++_}
-use mathlib.Core.Bool.{Bool, true, false, _&&_, cond}
+use mathlib.Core.List.{List, [], _∷_}
+use mathlib.Core.Bool.{Bool, true, false, cond}
 use mathlib.Core.Logic.{_⊎_, inl, inr}
-use Prim.Native.Nat.{ℕ, zero, suc, _+_, _-_, _≤_, _<_}
+use Prim.Native.Nat.{ℕ, zero, suc, _+_, _<_}
 use native.Mathlib.Nat.{not-suc-le-zero, le-of-suc-le-suc}
-use native.Mathlib.Numerals.{one-add, add-one}
+use native.Mathlib.Numerals.{one-add}
 use native.Mathlib.Omega.{arith}
-use lib.ListN.{length, take, drop, set, getD}
-use lib.Seq.{take-take, take-append-add, take-add, drop-at, length-take-le}
+use lib.ListN.{length, set, getD}
 use Rattle.laws.specs.Lists.{every, pairs, total, one, insertAt}
-
-pub both-l : (a b : Bool) → (a && b) ≡ true → a ≡ true
-both-l true b e = refl
-both-l false b e = e
-
-pub both-r : (a b : Bool) → (a && b) ≡ true → b ≡ true
-both-r true b e = e
-both-r false b e = absurd (never e)
-  where
-    never : false ≡ true → ⊥
-    never z = let q : _≡_ {A = ℕ} 0 1 = ap one z in omega arith
-
-pub both : (a b : Bool) → a ≡ true → b ≡ true → (a && b) ≡ true
-both a b p q = rw (p, q)
-
-pub by-cases : (t : Bool) → (t ≡ true) ⊎ (t ≡ false)
-by-cases true = inl refl
-by-cases false = inr refl
+use Rattle.laws.proofs.Bools.{true-false, and-true}
+pub use Rattle.laws.proofs.Bools.{both}
+pub use Rattle.laws.proofs.Cases.{by-cases}
 
 module _ {A : Type 0} (p : A → Bool) where
   pub hd : (x : A) (l : List A) → every p (x ∷ l) ≡ true → p x ≡ true
   unfolding every
-  hd x l e = both-l (p x) (every p l) e
+  hd x l e = and-true (p x) (every p l) e .0
 
   pub tl : (x : A) (l : List A) → every p (x ∷ l) ≡ true → every p l ≡ true
   unfolding every
-  tl x l e = both-r (p x) (every p l) e
+  tl x l e = and-true (p x) (every p l) e .1
 
   pub cons : (x : A) (l : List A) → p x ≡ true → every p l ≡ true → every p (x ∷ l) ≡ true
   unfolding every
@@ -78,11 +62,8 @@ module _ {A : Type 0} (R : A → A → Bool) (c : A → Bool) (x : A) (first : (
   all-after y [] n r e = (refl, refl)
   all-after y (z ∷ l) n r e = go (all-after y l n (tl (R y) z l r) (tl beside z l e)) (by-cases (c z))
     where
-      clash : false ≡ true → ⊥
-      clash w = let q : _≡_ {A = ℕ} 0 1 = ap one w in omega arith
-
       go : (rank l ≡ 0) × (every (R x) l ≡ true) → ((c z ≡ true) ⊎ (c z ≡ false)) → (rank (z ∷ l) ≡ 0) × (every (R x) (z ∷ l) ≡ true)
-      go rest (inl t) = absurd (clash (sym n ∙ first y z (hd (R y) z l r) t))
+      go rest (inl t) = true-false (sym (first y z (hd (R y) z l r) t) ∙ n)
       go rest (inr f) =
           let h : one (c z) ≡ 0 = ap one f in
           (omega (arith, rest .0), cons (R x) z l (rw f at (hd beside z l e)) (rest .1))
@@ -90,28 +71,17 @@ module _ {A : Type 0} (R : A → A → Bool) (c : A → Bool) (x : A) (first : (
   pub placed : (l : List A) → pairs R l ≡ true → every beside l ≡ true → pairs R (insertAt (rank l) x l) ≡ true
   unfolding every pairs total
   placed [] o e = refl
-  placed (y ∷ l) o e = go (placed l (both-r (every (R y) l) (pairs R l) o) (tl beside y l e)) (by-cases (c y))
+  placed (y ∷ l) o e = go (placed l (ordered .1) (tl beside y l e)) (by-cases (c y))
     where
-      o-l : every (R y) l ≡ true
-      o-l = both-l (every (R y) l) (pairs R l) o
+      ordered : (every (R y) l ≡ true) × (pairs R l ≡ true)
+      ordered = and-true (every (R y) l) (pairs R l) o
 
       go : pairs R (insertAt (rank l) x l) ≡ true → ((c y ≡ true) ⊎ (c y ≡ false)) → pairs R (insertAt (rank (y ∷ l)) x (y ∷ l)) ≡ true
       go rest (inl t) =
           let h : rank (y ∷ l) ≡ suc (rank l) = ap (λ (k : Bool). one k + rank l) t ∙ one-add (rank l) in
-          rw h (both (every (R y) (insertAt (rank l) x l)) (pairs R (insertAt (rank l) x l)) (every-insert (R y) (rank l) x l o-l (rw t at (hd beside y l e))) rest)
+          rw h (both (every (R y) (insertAt (rank l) x l)) (pairs R (insertAt (rank l) x l)) (every-insert (R y) (rank l) x l (ordered .0) (rw t at (hd beside y l e))) rest)
       go rest (inr f) =
-          let r = all-after y l f o-l (tl beside y l e) in
+          let r = all-after y l f (ordered .0) (tl beside y l e) in
           let k : one (c y) ≡ 0 = ap one f in
           let h : rank (y ∷ l) ≡ 0 = omega (arith, k, r .0) in
           rw h (both (every (R x) (y ∷ l)) (pairs R (y ∷ l)) (cons (R x) y l (rw f at (hd beside y l e)) (r .1)) o)
-
--- the first m + 1 of a row with x put in at p, where p is at most m
-pub row-insert : {A : Type 0} (items : List A) (w m p : ℕ) (x : A) → p ≤ m → m < w → length items ≡ w → take (m + 1) (take w (insertAt p x items)) ≡ insertAt p x (take m items)
-row-insert items w m p x pm mw e =
-    let lp : length (take p items) ≡ p = length-take-le p items (omega arith) in
-    let a : m + 1 ≡ length (take p items) + suc (m - p) = omega (arith, add-one (m - p)) in
-    let mp : m ≡ p + (m - p) = omega arith in
-    let t : take (m + 1) (insertAt p x items) ≡ take p items ++ x ∷ take (m - p) (drop p items) = rw a (take-append-add (take p items) (x ∷ drop p items) (suc (m - p))) in
-    let s : take m items ≡ take p items ++ take (m - p) (drop p items) = rw (← take-add p (m - p) items, ← mp) in
-    take-take (m + 1) w (insertAt p x items) (omega arith) ∙ t
-    ∙ sym (rw (take-take p m items pm, s, drop-at (take p items) (take (m - p) (drop p items)) p lp))

@@ -3,6 +3,7 @@
 use mathlib.Core.Path.{_≡_, refl, sym, ap, _∙_}
 use mathlib.Core.Logic.{⊎-elim}
 use mathlib.Core.Bool.{Bool, true, false, _&&_, and-false, and-assoc}
+use mathlib.Core.Bool as bool
 use mathlib.Core.List.{List, [], _∷_}
 use Prim.Native.Nat.{ℕ, _+_, _≤_, _<_}
 use native.Mathlib.Omega.{arith}
@@ -11,12 +12,9 @@ use lib.ListN.{length, take, drop, getD}
 use borrow.Author.Tests.{ltb-true, ltb-false}
 use Rattle.laws.specs.Lists.{every, pairs, chain}
 use Rattle.laws.proofs.Bools.{and-true}
-use Rattle.laws.proofs.Lists.{by-cases, hd, tl, cons}
+use Rattle.laws.proofs.Cases.{by-cases}
+use Rattle.laws.proofs.Lists.{hd, tl, cons}
 use Rattle.laws.proofs.Rows.{left-none, left-one}
-
-and-unit : (b : Bool) → (b && true) ≡ b
-and-unit true = refl
-and-unit false = refl
 
 -- A loop that asks of the first n whether each stands in the relation to its neighbour: what was passed does, and the rest is to be tested.
 module _ {A : Type 0} (R : A → A → Bool) (xs : List A) (n i : ℕ) (d : A) where
@@ -42,7 +40,7 @@ module _ {A : Type 0} (R : A → A → Bool) (xs : List A) (n i : ℕ) (d : A) w
       (by-cases (ltb i n))
 
   pub chain-ended : (ok w : Bool) → n ≤ i + 1 → n ≤ length xs → (ok && chain R (drop i (take n xs))) ≡ w → ok ≡ w
-  chain-ended ok w le fit inv = sym (and-unit ok) ∙ ap (λ (b : Bool). ok && b) (sym (last le fit)) ∙ inv
+  chain-ended ok w le fit inv = sym (bool.and-true ok) ∙ ap (λ (b : Bool). ok && b) (sym (last le fit)) ∙ inv
 
 -- ---- neighbours are enough
 

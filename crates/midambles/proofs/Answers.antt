@@ -10,9 +10,9 @@ use borrow.Author.Tests.{ltb-false}
 use Rattle.laws.specs.Runs.{run}
 use Rattle.laws.proofs.Bools.{or-false}
 use Rattle.laws.proofs.Runs.{run-same}
-use Rattle.refusals.specs.Refusals.{refused, answered, _leaving_, firstOf, answer, after}
+use Rattle.refusals.specs.Refusals.{_leaving_, firstOf}
 use Rattle.refusals.specs.Inside.{orRefused}
-use Rattle.refusals.proofs.First.{numbered, append-row, append-none, answer-refused, answer-answered, after-refused, after-answered}
+use Rattle.refusals.proofs.First.{numbered, append-row, append-none, refused-by, refused-leaving, answered-by, answered-leaving}
 use Rattle.midambles.specs.declared.code.Code.{Code}
 use Rattle.midambles.specs.declared.ChipAnswer.the-variants as chip
 use Rattle.midambles.specs.declared.MidambleAnswer.the-variants as midamble
@@ -50,7 +50,7 @@ module _ (cell burst count user i m n : ℕ) (d : Code) (e : d ≡ codeOf burst)
 
   pub chip-refused : (n ≡ 0 → ⊥) → saidOfChip (chip.Refused n) ≡ chipAnswer cell burst count user i
   unfolding saidOfChip chipAnswer
-  chip-refused h = sym (ap (λ (x : ℕ). answer x (chipOf cell burst user i)) (sym chip-first) ∙ answer-refused n (chipOf cell burst user i) h)
+  chip-refused h = refused-by n _ _ chip-first h
 
   chip-none : n ≡ 0 → (firstOf (userRefusals cell burst count user) ≡ 0) × (badChip burst i ≡ false)
   unfolding chipRefusals
@@ -68,20 +68,12 @@ module _ (cell burst count user i m n : ℕ) (d : Code) (e : d ≡ codeOf burst)
   pub chip-answered : n ≡ 0 → (by p : ℕ) → by ≡ shiftOf d user → p ≡ element (codeOf burst .period) (getD (rowsOf burst) cell []) (i + by)
       → saidOfChip (chip.Power p) ≡ chipAnswer cell burst count user i
   unfolding saidOfChip chipAnswer
-  chip-answered z by p s v =
-      ap answered (v ∙ chip-of d burst e cell user by s i)
-      ∙ sym (answer-answered (firstOf (chipRefusals cell burst count user i)) (chipOf cell burst user i) (sym chip-first ∙ z))
+  chip-answered z by p s v = answered-by n _ _ _ chip-first z (v ∙ chip-of d burst e cell user by s i)
 
 -- a whole midamble, likewise
 module _ (cell burst count user m n : ℕ) (out : List ℕ) (d : Code) (e : d ≡ codeOf burst) (u : m ≡ firstOf (userRefusals cell burst count user))
     (t : n ≡ orRefused m 11 (ltb (length out) (d .length))) where
-  abbrev first : ℕ
-  first = firstOf (midambleRefusals cell burst count user out)
-
-  abbrev made : List ℕ
-  made = chipsOf cell burst user ++ drop (codeOf burst .length) out
-
-  midamble-first : n ≡ first
+  midamble-first : n ≡ firstOf (midambleRefusals cell burst count user out)
   unfolding midambleRefusals tooShort
   midamble-first =
       t
@@ -91,11 +83,7 @@ module _ (cell burst count user m n : ℕ) (out : List ℕ) (d : Code) (e : d �
 
   pub midamble-refused : (n ≡ 0 → ⊥) → saidOfMidamble (midamble.Refused n) leaving out ≡ midambleOutcome cell burst count user out
   unfolding saidOfMidamble midambleOutcome
-  midamble-refused h =
-      let no-zero : first ≡ 0 → ⊥ = λ z. h (midamble-first ∙ z) in
-      let said : refused n ≡ answer first (codeOf burst .length) = ap refused midamble-first ∙ sym (answer-refused first (codeOf burst .length) no-zero) in
-      let kept : out ≡ after first out made = sym (after-refused first out made no-zero) in
-      cc
+  midamble-refused h = refused-leaving n _ _ out _ midamble-first h
 
   midamble-none : n ≡ 0 → (firstOf (userRefusals cell burst count user) ≡ 0) × (tooShort burst out ≡ false)
   unfolding midambleRefusals
@@ -113,11 +101,6 @@ module _ (cell burst count user m n : ℕ) (out : List ℕ) (d : Code) (e : d �
       → saidOfMidamble (midamble.Written (d .length)) leaving l ≡ midambleOutcome cell burst count user out
   unfolding saidOfMidamble midambleOutcome
   midamble-written z by l s v =
-      let none : first ≡ 0 = sym midamble-first ∙ z in
-      let said : answered (d .length) ≡ answer first (codeOf burst .length)
-      = ap (λ (x : Code). answered (x .length)) e ∙ sym (answer-answered first (codeOf burst .length) none)
-      in
-      let left : l ≡ after first out made
-      = v ∙ ap (λ (x : List ℕ). x ++ drop (codeOf burst .length) out) (chips-of d burst e cell user by s) ∙ sym (after-answered first out made none)
-      in
-      cc
+      answered-leaving n _ _ _ out l _ midamble-first z
+      (ap (λ (x : Code). x .length) e)
+      (v ∙ ap (λ (x : List ℕ). x ++ drop (codeOf burst .length) out) (chips-of d burst e cell user by s))

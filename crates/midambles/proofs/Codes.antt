@@ -1,14 +1,15 @@
 -- What both codes share, how far a shift goes, and what a call knows whose user was not refused.
 -- Assumes nothing.
 use mathlib.Core.Path.{_≡_, refl, sym, subst}
-use mathlib.Core.Bool.{Bool, true, false, cond, _||_}
-use mathlib.Core.List.{[]}
+use mathlib.Core.Bool.{Bool, true, false, cond}
+use mathlib.Core.List.{[], _∷_}
 use Prim.Native.Nat.{ℕ, _+_, _-_, _*_, _<_, _≤_}
-use native.Mathlib.Nat.{mul-le-mul-right, mul-le-mul}
+use native.Mathlib.Nat.{le-refl, mul-le-mul-right, mul-le-mul}
 use native.Mathlib.Omega.{arith}
 use lib.Dec.{eqb, ltb, leb, lit≤}
-use borrow.Author.Tests.{ltb-false, leb-false, eqb-true, not-false}
+use borrow.Author.Tests.{ltb-false, leb-false, not-false}
 use Rattle.laws.proofs.Bools.{or-false}
+use Rattle.laws.proofs.Cases.{one-of}
 use Rattle.refusals.specs.Refusals.{firstOf, badType}
 use Rattle.refusals.proofs.First.{first-none}
 use Rattle.midambles.specs.declared.code.Code.{Code}
@@ -90,10 +91,6 @@ pub record Passed (cell burst user : ℕ) : Type 0 where
   pub user-low : 1 ≤ user
   pub user-high : user ≤ 2 * codeOf burst .base
 
-count-high : (count base : ℕ) (a b : Bool) → (a ≡ true → count ≡ base) → (b ≡ true → count ≡ 2 * base) → (a || b) ≡ true → count ≤ 2 * base
-count-high count base true b f g e = omega (arith, f refl)
-count-high count base false b f g e = omega (arith, g e)
-
 pub passed : (cell burst count user : ℕ) → firstOf (userRefusals cell burst count user) ≡ 0 → Passed cell burst user
 unfolding userRefusals badCell badCount badUser
 passed cell burst count user e =
@@ -103,7 +100,7 @@ passed cell burst count user e =
     let three = first-none 2 (badCount burst count) _ (two .1) in
     let four = first-none 3 (badUser count user) [] (three .1) in
     let user-in = or-false (ltb user 1) (ltb count user) (four .0) in
-    let most = count-high count base (eqb count base) (eqb count (2 * base)) (eqb-true _ _) (eqb-true _ _) (not-false _ (three .0)) in
+    let most = one-of (λ (n : ℕ). n ≤ 2 * base) count base (2 * base ∷ []) (omega arith, (le-refl (2 * base), tt)) (not-false _ (three .0)) in
     let low : 1 ≤ user = ltb-false _ _ (user-in .0) in
     let high : user ≤ count = ltb-false _ _ (user-in .1) in
     record { cell-high = omega (arith, ltb-false 127 cell (one .0)); user-low = low; user-high = omega (arith, most) }

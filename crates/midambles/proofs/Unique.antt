@@ -1,10 +1,8 @@
 -- The two calls ask nothing, and no second reply or memory could satisfy their promises. `Pre` and `Post` are the contracts that rattle
 -- reads off the source: at arguments a, reply r and exit s. A weakened `ensures` fails here. Assumes nothing.
 use mathlib.Core.Path.{_≡_, sym, _∙_}
-use Prim.Native.Nat.{ℕ}
-use native.Mathlib.Omega.{arith}
 use denote.Ref.{now}
-use Rattle.refusals.specs.Refusals.{_leaving_}
+use Rattle.refusals.proofs.First.{leaving-parts}
 use Rattle.midambles.specs.declared.ChipAnswer.{ChipAnswer}
 use Rattle.midambles.specs.declared.ChipAnswer.the-variants as chip
 use Rattle.midambles.specs.declared.MidambleAnswer.{MidambleAnswer}
@@ -18,15 +16,15 @@ pub said-of-chip-once : (r r' : ChipAnswer) → saidOfChip r ≡ saidOfChip r' �
 unfolding saidOfChip
 said-of-chip-once (chip.Refused n) (chip.Refused m) e = cc
 said-of-chip-once (chip.Power p) (chip.Power q) e = cc
-said-of-chip-once (chip.Refused n) (chip.Power q) e = let z : _≡_ {A = ℕ} 0 1 = cc in absurd (omega arith)
-said-of-chip-once (chip.Power p) (chip.Refused m) e = let z : _≡_ {A = ℕ} 0 1 = cc in absurd (omega arith)
+said-of-chip-once (chip.Refused n) (chip.Power q) e = cc
+said-of-chip-once (chip.Power p) (chip.Refused m) e = cc
 
 pub said-of-midamble-once : (r r' : MidambleAnswer) → saidOfMidamble r ≡ saidOfMidamble r' → r ≡ r'
 unfolding saidOfMidamble
 said-of-midamble-once (midamble.Refused n) (midamble.Refused m) e = cc
 said-of-midamble-once (midamble.Written p) (midamble.Written q) e = cc
-said-of-midamble-once (midamble.Refused n) (midamble.Written q) e = let z : _≡_ {A = ℕ} 0 1 = cc in absurd (omega arith)
-said-of-midamble-once (midamble.Written p) (midamble.Refused m) e = let z : _≡_ {A = ℕ} 0 1 = cc in absurd (omega arith)
+said-of-midamble-once (midamble.Refused n) (midamble.Written q) e = cc
+said-of-midamble-once (midamble.Written p) (midamble.Refused m) e = cc
 
 pub chip-asks-nothing : (κs : _) (a : _) → midamble-chip.Pre κs a
 chip-asks-nothing κs a = tt
@@ -39,6 +37,4 @@ chip-unique κs a r r' s s' p q = said-of-chip-once r r' (p ∙ sym q)
 
 pub midamble-unique : (κs : _) (a : _) (r r' : _) (s s' : _) → whole.Post κs a r s → whole.Post κs a r' s'
     → (r ≡ r') × (now (s .1 .1 .1 .1 .0) ≡ now (s' .1 .1 .1 .1 .0))
-midamble-unique κs a r r' s s' p q =
-    let same : (saidOfMidamble r leaving now (s .1 .1 .1 .1 .0)) ≡ (saidOfMidamble r' leaving now (s' .1 .1 .1 .1 .0)) = p ∙ sym q in
-    (said-of-midamble-once r r' (cc), cc)
+midamble-unique κs a r r' s s' p q = let e = leaving-parts _ _ _ _ (p ∙ sym q) in (said-of-midamble-once r r' (e .0), e .1)

@@ -1,6 +1,5 @@
 // The numbers of the two codes, who may use them, and how far a user's midamble is shifted.
 ghost use mathlib.Core.Path.{_≡_};
-ghost use Prim.Native.Nat.{_≤_};
 ghost use Rattle.refusals.specs.Refusals.{firstOf};
 ghost use Rattle.midambles.specs.TrainingSequences.{codeOf, shiftOf};
 ghost use Rattle.midambles.specs.Calls.{badCell, badCount, badUser, userRefusals};

@@ -8,6 +8,7 @@ use native.Mathlib.Omega.{arith}
 use lib.ListN.{getD, set, length, length-set}
 use lib.Seq.{ext-getD, getD-set-same, getD-set-other}
 use Rattle.laws.specs.Runs.{run}
+use Rattle.laws.proofs.Cases.{equal-or-not}
 use Rattle.laws.proofs.Runs.{run-length}
 use Rattle.paging.specs.Paging.{bitsIn, perFrame, inTime, owned, ownerAt, asBit, burstOf, onesFrom, heard, readingOf, readingsOf}
 use Rattle.paging.specs.Inside.{Fits}
@@ -15,7 +16,7 @@ use Rattle.paging.proofs.OneRun.{run-within, run-owner}
 use Rattle.paging.proofs.Counted.{as-bit-most, ones-elsewhere, ones-changed}
 use Rattle.paging.proofs.Heard.{heard-changed}
 use Rattle.paging.proofs.Rows.{row-at}
-use Rattle.paging.proofs.Places.{equal-or-not, time-first, time-second}
+use Rattle.paging.proofs.Places.{time-first, time-second}
 use Rattle.paging.proofs.Owners.{owner-first, owner-second, owned-has}
 use Rattle.paging.proofs.Readings.{reading-runs, owned-written, as-bit-again, burst-length, read-back, all-read-back}
 

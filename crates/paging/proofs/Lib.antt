@@ -3,8 +3,8 @@ pub mod Tally
 pub mod Counted
 pub mod Heard
 pub mod Rows
-pub mod Chain
 pub mod Passed
+pub mod Lent
 pub mod Places
 pub mod Owners
 pub mod Readings

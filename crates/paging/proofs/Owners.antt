@@ -6,10 +6,11 @@ use mathlib.Core.Logic.{_⊎_, inl, inr, ⊎-elim}
 use Prim.Native.Nat.{ℕ, _+_, _-_, _*_, _/_, _<_, _≤_}
 use native.Mathlib.Omega.{arith}
 use lib.Dec.{eqb}
+use Rattle.laws.proofs.Cases.{below-or-not}
 use Rattle.paging.specs.Paging.{bitsIn, firstRun, secondRun, inTime, reservedAt, inHalf, Owner, reserved, owned, ownerAt}
 use Rattle.paging.proofs.OneRun.{run-within, run-owner, owner-run, owner-below}
 use Rattle.paging.proofs.Tally.{tally, tally-same, tally-none, tally-split, run-tally}
-use Rattle.paging.proofs.Places.{in-first, in-second, time-first, time-second, free-first, free-second, is-reserved, place-cases, below-or-not}
+use Rattle.paging.proofs.Places.{in-first, in-second, time-first, time-second, free-first, free-second, is-reserved, place-cases}
 
 -- carrying bit b is one of indicator q's: "L bits from Lq, and L bits from half the carrying bits plus Lq"
 abbrev pub Has : ℕ → ℕ → ℕ → ℕ → Type 0

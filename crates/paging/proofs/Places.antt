@@ -1,24 +1,14 @@
 -- Where the carrying bits lie in time order: "first half of the carrying bits, reserved 0 and 1, midamble, reserved 2 and 3, second half".
 -- Assumes nothing.
-use mathlib.Core.Path.{_≡_, refl}
-use mathlib.Core.Bool.{Bool, true, false, _&&_}
+use mathlib.Core.Path.{_≡_}
+use mathlib.Core.Bool.{true, false, and-false}
 use mathlib.Core.Logic.{_⊎_, inl, inr, ⊎-elim}
 use Prim.Native.Nat.{ℕ, _+_, _-_, _<_, _≤_}
 use native.Mathlib.Omega.{arith}
-use lib.Dec.{eqb, ltb, leb}
-use borrow.Author.Tests.{le-leb, lt-leb, lt-ltb, le-ltb, ltb-true, ltb-false, eqb-true, eqb-false}
+use lib.Dec.{leb}
+use borrow.Author.Tests.{le-leb, lt-leb, lt-ltb, le-ltb, ltb-false}
+use Rattle.laws.proofs.Cases.{below-or-not}
 use Rattle.paging.specs.Paging.{bitsIn, inTime, reservedAt, inHalf}
-
--- a test is true or false, so a number is below another or not, and equal to it or not
-decided : (b : Bool) → (b ≡ true) ⊎ (b ≡ false)
-decided true = inl refl
-decided false = inr refl
-
-pub below-or-not : (m n : ℕ) → (m < n) ⊎ (n ≤ m)
-below-or-not m n = ⊎-elim (λ e. inl (ltb-true m n e)) (λ e. inr (ltb-false m n e)) (decided (ltb m n))
-
-pub equal-or-not : (m n : ℕ) → (m ≡ n) ⊎ (m ≡ n → ⊥)
-equal-or-not m n = ⊎-elim (λ e. inl (eqb-true m n e)) (λ e. inr (eqb-false m n e)) (decided (eqb m n))
 
 -- a bit that is not reserved and not of the first half lies past the four reserved bits
 pub past-reserved : (H p : ℕ) → reservedAt H p ≡ false → H ≤ p → H + 4 ≤ p
@@ -51,10 +41,6 @@ time-second H b = simp (le-ltb (H + b) H (omega arith)) (omega arith)
 pub free-first : (H p : ℕ) → p < H → reservedAt H p ≡ false
 unfolding reservedAt
 free-first H p h = simp (lt-leb H p h)
-
-and-false : (a : Bool) → (a && false) ≡ false
-and-false true = refl
-and-false false = refl
 
 pub free-second : (H b : ℕ) → reservedAt H (H + 4 + b) ≡ false
 unfolding reservedAt

@@ -2,7 +2,7 @@
 -- Said over run length L, half H and number N, with N runs filling a half. Assumes nothing.
 use mathlib.Core.Path.{_≡_, refl, sym, ap, _∙_, subst}
 use mathlib.Core.Bool.{true, false}
-use mathlib.Core.List.{List, _++_}
+use mathlib.Core.List.{List, [], _++_}
 use mathlib.Core.Logic.{⊎-elim}
 use Prim.Native.Nat.{ℕ, _+_, _-_, _*_, _<_, _≤_}
 use native.Mathlib.Nat.{mul-assoc, mul-comm}
@@ -12,11 +12,11 @@ use borrow.Author.Tests.{le-ltb}
 use Rattle.laws.specs.Runs.{run}
 use Rattle.laws.proofs.Runs.{run-length}
 use Rattle.refusals.specs.Refusals.{answered, _leaving_, firstOf}
+use Rattle.refusals.proofs.First.{first-passes, append-passes, answered-leaving}
 use Rattle.paging.specs.Paging.{halfOf, bitsIn, perFrame, reservedAt, owned, ownerAt, asBit, bitBy, bitAt, burstOf, onesFrom, heard, readingOf, readingsOf}
 use Rattle.paging.specs.Calls.{pichRefusals, tooShort, readRefusals, readOutcome}
 use Rattle.paging.specs.Inside.{Fits, Holds}
-use Rattle.paging.proofs.Chain.{answered-leaving, last-passes}
-use Rattle.paging.proofs.Passed.{fits}
+use Rattle.paging.proofs.Passed.{fits, pich-numbered}
 use Rattle.paging.proofs.OneRun.{run-within, run-owner}
 use Rattle.paging.proofs.Counted.{as-bit-cases, ones-same, ones-all}
 use Rattle.paging.proofs.Heard.{heard-all}
@@ -102,11 +102,12 @@ module _ (L H : ℕ) (f : Fits L H) where
 pub there-and-back : (burst L : ℕ) (settings rest out : List ℕ) → firstOf (pichRefusals burst L) ≡ 0 → Holds out (perFrame L (halfOf burst))
     → readOutcome burst L (burstOf L (halfOf burst) settings ++ rest) out
     ≡ (answered (perFrame L (halfOf burst)) leaving (run (λ (i : ℕ). asBit (getD settings (i - 1) 0)) (perFrame L (halfOf burst)) ++ drop (perFrame L (halfOf burst)) out))
-unfolding readOutcome readRefusals tooShort
+unfolding readOutcome readRefusals tooShort firstOf
 there-and-back burst L settings rest out z room =
     let H = halfOf burst in
     let N = perFrame L H in
     let bits = burstOf L H settings ++ rest in
     let size = burst-length L H settings rest in
     let passes : tooShort bits (bitsIn H) out N ≡ false = simp (le-ltb (length bits) (bitsIn H) size, le-ltb (length out) N room) in
-    sym (answered-leaving _ N N out _ _ (last-passes burst L 11 _ z passes) refl (ap (λ (l : List ℕ). l ++ drop N out) (sym (all-read-back L H (fits burst L z) settings rest))))
+    let none = append-passes (pichRefusals burst L) _ (pich-numbered burst L) z ∙ first-passes 11 _ [] passes in
+    sym (answered-leaving 0 _ N N out _ _ (sym none) refl refl (ap (λ (l : List ℕ). l ++ drop N out) (sym (all-read-back L H (fits burst L z) settings rest))))

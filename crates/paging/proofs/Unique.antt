@@ -2,7 +2,7 @@
 -- at arguments a, reply r and exit s. Assumes nothing.
 use mathlib.Core.Path.{_≡_, sym, _∙_}
 use denote.Ref.{now}
-use Rattle.refusals.specs.Refusals.{Answer, _leaving_}
+use Rattle.refusals.proofs.First.{leaving-parts}
 use Rattle.paging.specs.declared.IndicatorAnswer.{IndicatorAnswer}
 use Rattle.paging.specs.declared.IndicatorAnswer.the-variants as placing
 use Rattle.paging.specs.declared.OwnerAnswer.{OwnerAnswer}
@@ -51,10 +51,6 @@ read-one-to-one (hearing.Refused n) (hearing.Written m) e = cc
 read-one-to-one (hearing.Written n) (hearing.Refused m) e = cc
 read-one-to-one (hearing.Written n) (hearing.Written m) e = cc
 
--- equal outcomes have equal answers and equal memory
-parts : {A M : Type 0} (x y : Answer A) (m n : M) → (x leaving m) ≡ (y leaving n) → (x ≡ y) × (m ≡ n)
-parts x y m n e = (cc, cc)
-
 pub indicator-asks-nothing : (κs : _) (a : _) → indicator.Pre κs a
 indicator-asks-nothing κs a = tt
 
@@ -71,10 +67,10 @@ pub write-asks-nothing : (κs : _) (a : _) → write.Pre κs a
 write-asks-nothing κs a = tt
 
 pub write-unique : (κs : _) (a : _) (r r' : _) (s s' : _) → write.Post κs a r s → write.Post κs a r' s' → (r ≡ r') × (now (s .1 .1 .1 .0) ≡ now (s' .1 .1 .1 .0))
-write-unique κs a r r' s s' p q = let e = parts _ _ _ _ (p ∙ sym q) in (write-one-to-one r r' (e .0), e .1)
+write-unique κs a r r' s s' p q = let e = leaving-parts _ _ _ _ (p ∙ sym q) in (write-one-to-one r r' (e .0), e .1)
 
 pub read-asks-nothing : (κs : _) (a : _) → read.Pre κs a
 read-asks-nothing κs a = tt
 
 pub read-unique : (κs : _) (a : _) (r r' : _) (s s' : _) → read.Post κs a r s → read.Post κs a r' s' → (r ≡ r') × (now (s .1 .1 .1 .0) ≡ now (s' .1 .1 .1 .0))
-read-unique κs a r r' s s' p q = let e = parts _ _ _ _ (p ∙ sym q) in (read-one-to-one r r' (e .0), e .1)
+read-unique κs a r r' s s' p q = let e = leaving-parts _ _ _ _ (p ∙ sym q) in (read-one-to-one r r' (e .0), e .1)

@@ -1,7 +1,7 @@
 // Document 01, "Paging bits (clause 5.3.7)": where an indicator's bits lie, and how a frame's indicators are written and read.
 ghost use mathlib.Core.Path.{_≡_};
 ghost use Rattle.refusals.specs.Refusals.{firstOf, _leaving_};
-ghost use Rattle.paging.specs.Paging.{halfOf};
+ghost use Rattle.paging.specs.Paging.{halfOf, perFrame};
 ghost use Rattle.paging.specs.Calls.{badPich, pichRefusals, badFrames, placeSaid, indicatorAnswer, ownerSaid, ownerAnswer, writeSaid, writeOutcome, readSaid, readOutcome};
 
 mod bits;
@@ -48,13 +48,10 @@ fn bad_pich(burst: u32, length: u32) -> bool
 fn pich_refusal(burst: u32, length: u32) -> u32
     ensures { λ r. ⌜ r ≡ firstOf (pichRefusals burst length) ⌝ }
 {
-    if refusals::bad_type(burst) {
-        return 2;
-    }
-    if bad_pich(burst, length) {
-        return 10;
-    }
-    0
+    let two = refusals::bad_type(burst);
+    let ten = bad_pich(burst, length);
+    let n = refusals::or_refused(0, 2, two);
+    refusals::or_refused(n, 10, ten)
 }
 
 // Half the carrying bits.
@@ -65,6 +62,16 @@ fn half_of(burst: u32) -> u32
         return 120;
     }
     136
+}
+
+// How many indicators a frame holds; none of length 0, which is refused.
+fn per_frame(length: u32, half: u32) -> u32
+    ensures { λ r. ⌜ r ≡ perFrame length half ⌝ }
+{
+    if length == 0 {
+        return 0;
+    }
+    half / length
 }
 
 // Refusal 10 of `indicator`: the frames per block are not 1 to 4.
@@ -78,17 +85,14 @@ fn bad_frames(frames: u32) -> bool
 pub fn indicator(burst: u32, length: u32, frames: u32, number: u32) -> IndicatorAnswer
     ensures { λ r. ⌜ placeSaid r ≡ indicatorAnswer burst length frames number ⌝ }
 {
+    let half = half_of(burst);
+    let per = per_frame(length, half);
+    let block = per as u64 * frames as u64; // in 64 bits, since the frames may be any number
     let n = pich_refusal(burst, length);
+    let n = refusals::or_refused(n, 10, bad_frames(frames));
+    let n = refusals::or_refused(n, 10, block <= number as u64);
     if n != 0 {
         return IndicatorAnswer::Refused(n);
-    }
-    if bad_frames(frames) {
-        return IndicatorAnswer::Refused(10);
-    }
-    let half = half_of(burst);
-    let per = half / length;
-    if per * frames <= number {
-        return IndicatorAnswer::Refused(10);
     }
     let q = number % per;
     IndicatorAnswer::Placed {
@@ -104,13 +108,11 @@ pub fn indicator(burst: u32, length: u32, frames: u32, number: u32) -> Indicator
 pub fn owner(burst: u32, length: u32, bit: u32) -> OwnerAnswer
     ensures { λ r. ⌜ ownerSaid r ≡ ownerAnswer burst length bit ⌝ }
 {
+    let half = half_of(burst);
     let n = pich_refusal(burst, length);
+    let n = refusals::or_refused(n, 10, half + 4 + half <= bit);
     if n != 0 {
         return OwnerAnswer::Refused(n);
-    }
-    let half = half_of(burst);
-    if half + 4 + half <= bit {
-        return OwnerAnswer::Refused(10);
     }
     if bits::is_reserved(half, bit) {
         return OwnerAnswer::Reserved;
@@ -122,14 +124,14 @@ pub fn owner(burst: u32, length: u32, bit: u32) -> OwnerAnswer
 pub fn write(burst: u32, length: u32, settings: &[u8], out: &mut [u8]) -> WriteAnswer
     ensures { λ r. ⌜ writeSaid r leaving now (out .exit) ≡ writeOutcome burst length (now (settings .entry)) (now (out .entry)) ⌝ }
 {
-    let n = pich_refusal(burst, length);
-    if n != 0 {
-        return WriteAnswer::Refused(n);
-    }
     let half = half_of(burst);
     let bits = half + 4 + half;
-    if (settings.len() < (half / length) as usize) | (out.len() < bits as usize) {
-        return WriteAnswer::Refused(11);
+    let few_settings = settings.len() < per_frame(length, half) as usize;
+    let no_room = out.len() < bits as usize;
+    let n = pich_refusal(burst, length);
+    let n = refusals::or_refused(n, 11, few_settings | no_room);
+    if n != 0 {
+        return WriteAnswer::Refused(n);
     }
     bits::fill(length, half, settings, out);
     WriteAnswer::Written(bits)
@@ -139,14 +141,14 @@ pub fn write(burst: u32, length: u32, settings: &[u8], out: &mut [u8]) -> WriteA
 pub fn read(burst: u32, length: u32, bits: &[u8], out: &mut [u8]) -> ReadAnswer
     ensures { λ r. ⌜ readSaid r leaving now (out .exit) ≡ readOutcome burst length (now (bits .entry)) (now (out .entry)) ⌝ }
 {
+    let half = half_of(burst);
+    let per = per_frame(length, half);
+    let few_bits = bits.len() < (half + 4 + half) as usize;
+    let no_room = out.len() < per as usize;
     let n = pich_refusal(burst, length);
+    let n = refusals::or_refused(n, 11, few_bits | no_room);
     if n != 0 {
         return ReadAnswer::Refused(n);
-    }
-    let half = half_of(burst);
-    let per = half / length;
-    if (bits.len() < (half + 4 + half) as usize) | (out.len() < per as usize) {
-        return ReadAnswer::Refused(11);
     }
     bits::scan(length, half, bits, out);
     ReadAnswer::Written(per)

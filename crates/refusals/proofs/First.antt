@@ -8,7 +8,7 @@ use native.Mathlib.Omega.{arith}
 use lib.Dec.{T, ltb, ltb→lt}
 use borrow.Author.Tests.{eq-eqb, ne-eqb}
 use Rattle.laws.proofs.Bools.{true-false, T-and-left, T-and-right}
-use Rattle.refusals.specs.Refusals.{refused, answered, Refusals, firstOf, answer, after}
+use Rattle.refusals.specs.Refusals.{Answer, refused, answered, _leaving_, Refusals, firstOf, answer, after}
 use Rattle.refusals.specs.Inside.{orRefused, rowByRow}
 
 -- the condition holds: its number is given
@@ -112,3 +112,29 @@ after-refused n before made h = simp (ne-eqb n 0 h)
 pub after-answered : {M : Type 0} (n : ℕ) (before made : M) → n ≡ 0 → after n before made ≡ made
 unfolding after
 after-answered n before made e = simp (eq-eqb n 0 e)
+
+-- what a call that found n in its table answers and leaves: a refusal, by its number and with what was lent unchanged
+pub refused-by : {A : Type 0} (n m : ℕ) (value : A) → n ≡ m → (n ≡ 0 → ⊥) → refused n ≡ answer m value
+refused-by n m value e h = ap refused e ∙ sym (answer-refused m value (λ z. h (e ∙ z)))
+
+pub refused-leaving : {A M : Type 0} (n m : ℕ) (value : A) (before made : M) → n ≡ m → (n ≡ 0 → ⊥)
+    → (refused n leaving before) ≡ (answer m value leaving after m before made)
+refused-leaving n m value before made e h =
+    let said = refused-by n m value e h in
+    let kept = sym (after-refused m before made (λ z. h (e ∙ z))) in
+    cc
+
+-- or, where it found none, the value, and what was lent as the call makes it
+pub answered-by : {A : Type 0} (n m : ℕ) (given value : A) → n ≡ m → n ≡ 0 → given ≡ value → answered given ≡ answer m value
+answered-by n m given value e z v = ap answered v ∙ sym (answer-answered m value (sym e ∙ z))
+
+pub answered-leaving : {A M : Type 0} (n m : ℕ) (given value : A) (before out made : M) → n ≡ m → n ≡ 0 → given ≡ value → out ≡ made
+    → (answered given leaving out) ≡ (answer m value leaving after m before made)
+answered-leaving n m given value before out made e z v l =
+    let said = answered-by n m given value e z v in
+    let left = l ∙ sym (after-answered m before made (sym e ∙ z)) in
+    cc
+
+-- equal outcomes have equal answers, and leave the same
+pub leaving-parts : {A M : Type 0} (x y : Answer A) (m n : M) → (x leaving m) ≡ (y leaving n) → (x ≡ y) × (m ≡ n)
+leaving-parts x y m n e = (cc, cc)

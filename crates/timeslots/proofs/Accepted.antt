@@ -1,8 +1,8 @@
 -- What a request that is not refused is known by: the numbers it may hold, and what the table's rows have in common.
 -- Cited by proofs/Cover.antt, proofs/Agree.antt and the proofs of `part_lengths`, `parts` and `at`. Assumes nothing.
-use mathlib.Core.Path.{_≡_, refl, sym, subst}
-use mathlib.Core.Bool.{Bool, true, false, _&&_, _||_}
-use mathlib.Core.List.{List, []}
+use mathlib.Core.Path.{_≡_, refl}
+use mathlib.Core.Bool.{Bool, true, _&&_}
+use mathlib.Core.List.{List, [], _∷_}
 use Prim.Native.Nat.{ℕ, zero, suc, _+_, _-_, _%_, _<_, _≤_, _∣_}
 use native.Mathlib.Nat.{dvd-refl}
 use native.Mathlib.Omega.{arith}
@@ -10,6 +10,7 @@ use lib.Dec.{eqb, leb, lit≤}
 use lib.ListN.{getD}
 use borrow.Author.Tests.{ltb-false, leb-true, eqb-true, not-false}
 use Rattle.laws.proofs.Bools.{and-true, or-false}
+use Rattle.laws.proofs.Cases.{one-of}
 use Rattle.refusals.specs.Refusals.{firstOf, badType}
 use Rattle.refusals.proofs.First.{first-none}
 use Rattle.timeslots.specs.declared.Direction.{Direction}
@@ -17,22 +18,6 @@ use Rattle.timeslots.specs.declared.Direction.the-variants.{Up, Down}
 use Rattle.timeslots.specs.Conditions.{badFactor, badControl}
 use Rattle.timeslots.specs.Timeslots.{fields, fieldLength, controlChips}
 use Rattle.timeslots.specs.Calls.{partsRefusals}
-
-or-cases : {C : Type 0} (a b : Bool) → (a ≡ true → C) → (b ≡ true → C) → (a || b) ≡ true → C
-or-cases true b f g e = f refl
-or-cases false b f g e = g e
-
--- what holds of each of five numbers holds of whatever is one of them
-one-of : (P : ℕ → Type 0) (x a b c d e : ℕ) → P a → P b → P c → P d → P e → (eqb x a || eqb x b || eqb x c || eqb x d || eqb x e) ≡ true → P x
-one-of P x a b c d e pa pb pc pd pe =
-    or-cases (eqb x a || eqb x b || eqb x c || eqb x d) (eqb x e)
-    (or-cases (eqb x a || eqb x b || eqb x c) (eqb x d)
-    (or-cases (eqb x a || eqb x b) (eqb x c) (or-cases (eqb x a) (eqb x b) (is a pa) (is b pb)) (is c pc))
-    (is d pd))
-    (is e pe)
-  where
-    is : (y : ℕ) → P y → eqb x y ≡ true → P x
-    is y py t = subst P (sym (eqb-true x y t)) py
 
 pub record Accepted (burst factor tfci tpc : ℕ) : Type 0 where
   pub burst-low : 1 ≤ burst
@@ -52,15 +37,15 @@ accepted burst direction factor tfci tpc e =
     let eight = first-none 7 _ _ (seven .1) in
     let type = or-false _ _ (two .0) in
     let control = or-false _ _ (or-false _ _ (eight .0) .0) in
-    let good = one-of (λ (f : ℕ). (1 ≤ f) × (16 % f ≡ 0)) factor 1 2 4 8 16 (lit≤ tt, refl) (lit≤ tt, refl) (lit≤ tt, refl) (lit≤ tt, refl) (lit≤ tt, refl)
-    (not-false _ (or-false _ _ (six .0) .0)) in
+    let good = one-of (λ (f : ℕ). (1 ≤ f) × (16 % f ≡ 0)) factor 1 (2 ∷ 4 ∷ 8 ∷ 16 ∷ [])
+    ((lit≤ tt, refl), ((lit≤ tt, refl), ((lit≤ tt, refl), ((lit≤ tt, refl), ((lit≤ tt, refl), tt))))) (not-false _ (or-false _ _ (six .0) .0)) in
     record {
       burst-low = ltb-false burst 1 (type .0);
       burst-high = ltb-false 3 burst (type .1);
       factor-low = good .0;
       factor-whole = good .1;
-      tfci-high = one-of (λ (t : ℕ). t ≤ 32) tfci 0 4 8 16 32 (lit≤ tt) (lit≤ tt) (lit≤ tt) (lit≤ tt) (lit≤ tt) (not-false _ (control .0));
-      tpc-high = or-cases (eqb tpc 0) (eqb tpc 2) (λ t. omega (arith, eqb-true tpc 0 t)) (λ t. omega (arith, eqb-true tpc 2 t)) (not-false _ (control .1));
+      tfci-high = one-of (λ (t : ℕ). t ≤ 32) tfci 0 (4 ∷ 8 ∷ 16 ∷ 32 ∷ []) (lit≤ tt, (lit≤ tt, (lit≤ tt, (lit≤ tt, (lit≤ tt, tt))))) (not-false _ (control .0));
+      tpc-high = one-of (λ (t : ℕ). t ≤ 2) tpc 0 (2 ∷ []) (lit≤ tt, (lit≤ tt, tt)) (not-false _ (control .1));
     }
 
 -- a control symbol is a whole number of data symbols long, and 16 chips a whole number of control symbols

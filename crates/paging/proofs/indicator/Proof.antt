@@ -1,133 +1,136 @@
--- `paging::indicator` meets its contract: a lemma for each of its answers, and the products are small.
+-- `paging::indicator` meets its contract: a lemma for each of its two answers, and the products are small.
 -- Assumes nothing.
-use mathlib.Core.Path.{_≡_, sym, ap, _∙_, subst}
-use mathlib.Core.Bool.{true, false}
+use mathlib.Core.Path.{_≡_, sym, ap, _∙_}
+use mathlib.Core.Bool.{Bool}
 use mathlib.Core.List.{[], _∷_}
-use Prim.Native.Nat.{ℕ, _+_, _*_, _/_, _%_, _<_, _≤_}
-use native.Mathlib.Nat.{mul-le-mul, mod-lt}
+use Prim.Native.Nat.{ℕ, _+_, _*_, _/_, _%_, _^_, _<_, _≤_}
+use native.Mathlib.Nat.{mul-le-mul, mod-lt, div-le-self}
 use native.Mathlib.Omega.{arith}
+use lib.Dec.{leb}
 use borrow.Author.Needs.{needs}
-use borrow.Author.Tests.{le-leb, lt-leb, ltb-false}
-use lib.Dec.{ltb}
-use Rattle.laws.proofs.Bools.{or-false}
 use Rattle.refusals.specs.Refusals.{firstOf}
-use Rattle.refusals.proofs.First.{first-holds, first-passes}
+use Rattle.refusals.specs.Inside.{orRefused, rowByRow}
+use Rattle.refusals.proofs.First.{append-rows, append-front, refused-by, answered-by}
 use Rattle.paging.specs.declared.IndicatorAnswer.the-variants.{Refused, Placed}
 use Rattle.paging.specs.Paging.{halfOf, perFrame, placeOf}
 use Rattle.paging.specs.Calls.{pichRefusals, badFrames, badNumber, indicatorRefusals, placeSaid, indicatorAnswer}
 use Rattle.paging.specs.Inside.{Fits}
-use Rattle.paging.proofs.Chain.{refused-by, answered-by, first-stays, rest-decides}
-use Rattle.paging.proofs.Passed.{fits}
+use Rattle.paging.proofs.Passed.{half-high, fits, pich-numbered}
 use Rattle.paging.proofs.OneRun.{run-within}
 use Rattle.paging.proofs.indicator.Statement.{statement}
 use Rattle.paging.proofs.indicator.Tie as tie
 
-module _ (burst L F PI : ℕ) where
-  early : (n : ℕ) → n ≡ firstOf (pichRefusals burst L) → (n ≡ 0 → ⊥) → placeSaid (Refused n) ≡ indicatorAnswer burst L F PI
-  unfolding placeSaid indicatorAnswer indicatorRefusals
-  early n e h = refused-by _ n _ (first-stays burst L n _ e h) h
+module _ (burst L F PI H N : ℕ) (bad : Bool) (m k n : ℕ) (h : H ≡ halfOf burst) (p : N ≡ perFrame L H) (u : m ≡ firstOf (pichRefusals burst L))
+    (b : bad ≡ badFrames F) (s : k ≡ orRefused m 10 bad) (t : n ≡ orRefused k 10 (leb (N * F) PI)) where
+  first : n ≡ firstOf (indicatorRefusals burst L F PI)
+  unfolding rowByRow indicatorRefusals badNumber
+  first = rw (t, s, b, u, p, h) (append-rows (pichRefusals burst L) ((10, badFrames F) ∷ (10, badNumber L (halfOf burst) F PI) ∷ []) (pich-numbered burst L) tt)
 
-  module _ (z : firstOf (pichRefusals burst L) ≡ 0) where
-    no-frames : badFrames F ≡ true → placeSaid (Refused 10) ≡ indicatorAnswer burst L F PI
-    unfolding placeSaid indicatorAnswer indicatorRefusals
-    no-frames b = refused-by _ 10 _ (rest-decides burst L _ z ∙ first-holds 10 (badFrames F) _ b) (λ q. omega arith)
+  is-refused : (n ≡ 0 → ⊥) → placeSaid (Refused n) ≡ indicatorAnswer burst L F PI
+  unfolding placeSaid indicatorAnswer
+  is-refused d = refused-by n _ _ first d
 
-    module _ (b : badFrames F ≡ false) (H : ℕ) (e : H ≡ halfOf burst) where
-      too-large : H / L * F ≤ PI → placeSaid (Refused 10) ≡ indicatorAnswer burst L F PI
-      unfolding placeSaid indicatorAnswer indicatorRefusals badNumber
-      too-large h =
-          let t = le-leb (perFrame L (halfOf burst) * F) PI (subst (λ (k : ℕ). k / L * F ≤ PI) e h) in
-          refused-by _ 10 _ (rest-decides burst L _ z ∙ first-passes 10 (badFrames F) _ b ∙ first-holds 10 (badNumber L (halfOf burst) F PI) [] t) (λ q. omega arith)
+  module _ (z : n ≡ 0) where
+    fitting : Fits L H
+    unfolding indicatorRefusals
+    fitting = rw h (fits burst L (append-front (pichRefusals burst L) _ (pich-numbered burst L) (sym first ∙ z)))
 
-      is-placed : PI < H / L * F → placeSaid (Placed (PI / (H / L)) (PI % (H / L)) (L * (PI % (H / L))) (H + L * (PI % (H / L))) L) ≡ indicatorAnswer burst L F PI
-      unfolding placeSaid indicatorAnswer indicatorRefusals badNumber placeOf firstOf
-      is-placed h =
-          let t = lt-leb (perFrame L (halfOf burst) * F) PI (subst (λ (k : ℕ). PI < k / L * F) e h) in
-          answered-by _ _ _
-          (rest-decides burst L _ z ∙ first-passes 10 (badFrames F) ((10, badNumber L (halfOf burst) F PI) ∷ []) b ∙ first-passes 10 (badNumber L (halfOf burst) F PI) [] t)
-          (ap (λ (k : ℕ). placeOf L k PI) e)
+    -- a frame holds some, and q's second run ends within the carrying bits, at most 272
+    small : (1 ≤ N) × (H + L * (PI % N) + L ≤ 272)
+    small =
+        let some : 1 ≤ N = omega (arith, fitting .number-low) in
+        (some, omega (arith, run-within L N (PI % N) (mod-lt PI some), ap (λ (j : ℕ). j * L) p, fitting .whole, fitting .half-high))
 
--- at most four frames
-frames-high : (F : ℕ) → badFrames F ≡ false → F ≤ 4
-unfolding badFrames
-frames-high F b = ltb-false 4 F (or-false (ltb F 1) (ltb 4 F) b .1)
+    is-placed : placeSaid (Placed (PI / N) (PI % N) (L * (PI % N)) (H + L * (PI % N)) L) ≡ indicatorAnswer burst L F PI
+    unfolding placeSaid indicatorAnswer placeOf
+    is-placed = answered-by n _ _ _ first z (rw (p, h))
 
--- q's second run ends within the carrying bits, at most 272
-runs-small : (L H PI : ℕ) → Fits L H → H + L * (PI % (H / L)) + L ≤ 272
-runs-small L H PI f = omega (arith, run-within L (H / L) (PI % (H / L)) (mod-lt PI (f .number-low)), f .whole, f .half-high)
-
-pich-refusal-requires : tie.Need-pich-refusal-requires
-pich-refusal-requires c κs = search needs
-
-returns : tie.Need-returns
-returns c = early _ _ _ _ _ (c .before .pich-refusal .ensures) (c .if1 .taken)
-
-bad-frames-requires : tie.Need-bad-frames-requires
-bad-frames-requires c κs = search needs
-
--- past the first refusals
-zero : (c : tie.Else1) → firstOf (pichRefusals (c .before .before .args .burst) (c .before .before .args .length)) ≡ 0
-zero c = sym (c .before .pich-refusal .ensures) ∙ c .if1 .left
-
-returns-2 : tie.Need-returns-2
-returns-2 c = no-frames _ _ _ _ (zero (c .before .before)) (sym (c .before .bad-frames .ensures) ∙ c .if2 .taken)
+-- at most 136 a frame, and frames without limit: the product fits 64 bits
+product-small : (N F L H burst : ℕ) → H ≡ halfOf burst → N ≡ perFrame L H → F < 2 ^ 32 → N * F < 2 ^ 64
+product-small N F L H burst h p l =
+    let few : N ≤ 136 = omega (arith, div-le-self H L, half-high burst) in
+    let most : F ≤ 2 ^ 32 = omega arith in
+    omega (arith, mul-le-mul few most)
 
 half-of-requires : tie.Need-half-of-requires
 half-of-requires c κs = search needs
 
--- the half that the call was told
-fitted : (c : tie.After-half-of) → Fits (c .before .before .before .before .before .args .length) (c .half-of .result)
-fitted c = subst (λ (H : ℕ). Fits (c .before .before .before .before .before .args .length) H) (sym (c .half-of .ensures)) (fits _ _ (zero (c .before .before .before)))
+per-frame-requires : tie.Need-per-frame-requires
+per-frame-requires c κs = search needs
 
-admitted : (c : tie.Else2) → badFrames (c .before .before .before .before .args .frames) ≡ false
-admitted c = sym (c .before .bad-frames .ensures) ∙ c .if2 .left
+cast-block : tie.Need-cast-block
+cast-block c = search needs
 
-div-per : tie.Need-div-per
-div-per c = fitted c .length-low
+mul-block : tie.Need-mul-block
+mul-block c = record { fits = product-small _ _ _ _ _ (c .before .half-of .ensures) (c .per-frame .ensures) (omega arith) }
 
-mul-if3 : tie.Need-mul-if3
-mul-if3 c = omega (arith, mul-le-mul (fitted c .number-high) (frames-high _ (admitted (c .before))))
+pich-refusal-requires : tie.Need-pich-refusal-requires
+pich-refusal-requires c κs = search needs
 
-returns-3 : tie.Need-returns-3
-returns-3 c =
-    let d = c .before in
-    too-large _ _ _ _ (zero (d .before .before .before)) (admitted (d .before)) _ (d .half-of .ensures) (c .if3 .taken)
+bad-frames-requires : tie.Need-bad-frames-requires
+bad-frames-requires c κs = search needs
+
+or-refused-requires : tie.Need-or-refused-requires
+or-refused-requires c κs = search needs
+
+or-refused-requires-2 : tie.Need-or-refused-requires-2
+or-refused-requires-2 c κs = search needs
+
+returns : tie.Need-returns
+returns c =
+    let d = c .before .before .before .before in
+    is-refused _ _ _ _ _ _ _ _ _ _ (d .before .before .half-of .ensures) (d .before .per-frame .ensures) (d .pich-refusal .ensures)
+    (c .before .before .before .bad-frames .ensures) (c .before .before .or-refused .ensures) (c .before .or-refused2 .ensures) (c .if1 .taken)
+
+-- past the test: a frame holds some, and the runs are small
+told : (c : tie.Else1)
+    → let d = c .before .before .before .before in
+    let per = d .before .per-frame .result in
+    let args = d .before .before .before .args in
+    (1 ≤ per) × (d .before .before .half-of .result + args .length * (args .number % per) + args .length ≤ 272)
+told c =
+    let d = c .before .before .before .before in
+    let args = d .before .before .before .args in
+    small _ _ (args .frames) (args .number) _ _ _ _ _ _ (d .before .before .half-of .ensures) (d .before .per-frame .ensures) (d .pich-refusal .ensures)
+    (c .before .before .before .bad-frames .ensures) (c .before .before .or-refused .ensures) (c .before .or-refused2 .ensures) (c .if1 .left)
 
 rem-q : tie.Need-rem-q
-rem-q c = fitted (c .before) .number-low
+rem-q c = told c .0
 
-div-t11 : tie.Need-div-t11
-div-t11 c = fitted (c .before) .number-low
+div-t15 : tie.Need-div-t15
+div-t15 c = told c .0
 
-mul-t12 : tie.Need-mul-t12
-mul-t12 c = omega (arith, runs-small _ _ (c .before .before .before .before .before .before .args .number) (fitted (c .before)))
+mul-t16 : tie.Need-mul-t16
+mul-t16 c = omega (arith, told c .1)
 
-mul-t13 : tie.Need-mul-t13
-mul-t13 c = omega (arith, runs-small _ _ (c .before .before .before .before .before .before .args .number) (fitted (c .before)))
+mul-t17 : tie.Need-mul-t17
+mul-t17 c = omega (arith, told c .1)
 
-add-t14 : tie.Need-add-t14
-add-t14 c = omega (arith, runs-small _ _ (c .before .before .before .before .before .before .args .number) (fitted (c .before)))
+add-t18 : tie.Need-add-t18
+add-t18 c = omega (arith, told c .1)
 
-returns-4 : tie.Need-returns-4
-returns-4 c =
-    let d = c .before in
-    is-placed _ _ _ _ (zero (d .before .before .before)) (admitted (d .before)) _ (d .half-of .ensures) (c .if3 .left)
+returns-2 : tie.Need-returns-2
+returns-2 c =
+    let d = c .before .before .before .before in
+    is-placed _ _ _ _ _ _ _ _ _ _ (d .before .before .half-of .ensures) (d .before .per-frame .ensures) (d .pich-refusal .ensures)
+    (c .before .before .before .bad-frames .ensures) (c .before .before .or-refused .ensures) (c .before .or-refused2 .ensures) (c .if1 .left)
 
 pub indicator-spec : {M : Type 1} → statement M
 indicator-spec =
     tie.close
     (tie.spec
-    pich-refusal-requires
-    returns
-    bad-frames-requires
-    returns-2
     half-of-requires
-    div-per
-    mul-if3
-    returns-3
+    per-frame-requires
+    cast-block
+    mul-block
+    pich-refusal-requires
+    bad-frames-requires
+    or-refused-requires
+    or-refused-requires-2
+    returns
     rem-q
-    div-t11
-    mul-t12
-    mul-t13
-    add-t14
-    returns-4)
+    div-t15
+    mul-t16
+    mul-t17
+    add-t18
+    returns-2)

@@ -2,99 +2,107 @@
 -- Assumes nothing.
 use mathlib.Core.Path.{_≡_, sym, ap, _∙_}
 use mathlib.Core.Bool.{true, false}
-use Prim.Native.Nat.{ℕ, _/_, _<_, _≤_}
+use mathlib.Core.List.{[], _∷_}
+use Prim.Native.Nat.{ℕ, _/_, _≤_}
 use native.Mathlib.Omega.{arith}
+use lib.Dec.{leb}
 use borrow.Author.Needs.{needs}
-use borrow.Author.Tests.{le-leb, lt-leb}
 use Rattle.refusals.specs.Refusals.{firstOf}
+use Rattle.refusals.specs.Inside.{orRefused}
+use Rattle.refusals.proofs.First.{append-row, append-front, refused-by, answered-by}
 use Rattle.paging.specs.declared.OwnerAnswer.the-variants.{Refused, Reserved, Owned}
 use Rattle.paging.specs.Paging.{halfOf, bitsIn, reservedAt, inHalf, ownerAt}
 use Rattle.paging.specs.Calls.{pichRefusals, badBit, ownerRefusals, ownerSaid, ownerAnswer}
-use Rattle.paging.proofs.Chain.{refused-by, answered-by, first-stays, last-holds, last-passes}
-use Rattle.paging.proofs.Passed.{half-high, fits}
+use Rattle.paging.specs.Inside.{Fits}
+use Rattle.paging.proofs.Passed.{half-high, fits, pich-numbered}
 use Rattle.paging.proofs.owner.Statement.{statement}
 use Rattle.paging.proofs.owner.Tie as tie
 
-module _ (burst L p : ℕ) where
-  early : (n : ℕ) → n ≡ firstOf (pichRefusals burst L) → (n ≡ 0 → ⊥) → ownerSaid (Refused n) ≡ ownerAnswer burst L p
-  unfolding ownerSaid ownerAnswer ownerRefusals
-  early n e h = refused-by _ n _ (first-stays burst L n _ e h) h
+module _ (burst L p H m n : ℕ) (h : H ≡ halfOf burst) (u : m ≡ firstOf (pichRefusals burst L)) (t : n ≡ orRefused m 10 (leb (bitsIn H) p)) where
+  first : n ≡ firstOf (ownerRefusals burst L p)
+  unfolding ownerRefusals badBit
+  first = rw (t, u, h) (append-row (pichRefusals burst L) 10 _ (pich-numbered burst L))
 
-  module _ (z : firstOf (pichRefusals burst L) ≡ 0) (H : ℕ) (e : H ≡ halfOf burst) where
-    outside : bitsIn H ≤ p → ownerSaid (Refused 10) ≡ ownerAnswer burst L p
-    unfolding ownerSaid ownerAnswer ownerRefusals badBit
-    outside h = refused-by _ 10 _ (last-holds burst L 10 _ z (le-leb (bitsIn (halfOf burst)) p (omega arith))) (λ q. omega arith)
+  is-refused : (n ≡ 0 → ⊥) → ownerSaid (Refused n) ≡ ownerAnswer burst L p
+  unfolding ownerSaid ownerAnswer
+  is-refused d = refused-by n _ _ first d
 
-    inside : p < bitsIn H → firstOf (ownerRefusals burst L p) ≡ 0
-    unfolding ownerRefusals badBit
-    inside h = last-passes burst L 10 _ z (lt-leb (bitsIn (halfOf burst)) p (omega arith))
+  module _ (z : n ≡ 0) where
+    fitting : Fits L (halfOf burst)
+    unfolding ownerRefusals
+    fitting = fits burst L (append-front (pichRefusals burst L) ((10, badBit (halfOf burst) p) ∷ []) (pich-numbered burst L) (sym first ∙ z))
 
-    is-reserved : p < bitsIn H → reservedAt H p ≡ true → ownerSaid Reserved ≡ ownerAnswer burst L p
+    is-reserved : reservedAt H p ≡ true → ownerSaid Reserved ≡ ownerAnswer burst L p
     unfolding ownerSaid ownerAnswer ownerAt
-    is-reserved h r = answered-by _ _ _ (inside h) (simp (ap (λ (k : ℕ). reservedAt k p) (sym e) ∙ r))
+    is-reserved r = answered-by n _ _ _ first z (simp (ap (λ (k : ℕ). reservedAt k p) (sym h) ∙ r))
 
-    is-owned : p < bitsIn H → reservedAt H p ≡ false → (b : ℕ) → b ≡ inHalf H p → ownerSaid (Owned (b / L)) ≡ ownerAnswer burst L p
+    is-owned : reservedAt H p ≡ false → (b : ℕ) → b ≡ inHalf H p → ownerSaid (Owned (b / L)) ≡ ownerAnswer burst L p
     unfolding ownerSaid ownerAnswer ownerAt
-    is-owned h r b v =
-        answered-by _ _ _ (inside h)
-        (simp (ap (λ (k : ℕ). reservedAt k p) (sym e) ∙ r, v ∙ ap (λ (k : ℕ). inHalf k p) e))
-
-pich-refusal-requires : tie.Need-pich-refusal-requires
-pich-refusal-requires c κs = search needs
-
-returns : tie.Need-returns
-returns c = early _ _ _ _ (c .before .pich-refusal .ensures) (c .if1 .taken)
+    is-owned r b v = answered-by n _ _ _ first z (simp (ap (λ (k : ℕ). reservedAt k p) (sym h) ∙ r, v ∙ ap (λ (k : ℕ). inHalf k p) h))
 
 half-of-requires : tie.Need-half-of-requires
 half-of-requires c κs = search needs
 
-add-if2 : tie.Need-add-if2
-add-if2 c = omega (arith, c .half-of .ensures, half-high (c .before .before .before .args .burst))
+pich-refusal-requires : tie.Need-pich-refusal-requires
+pich-refusal-requires c κs = search needs
 
-add-if2-2 : tie.Need-add-if2-2
-add-if2-2 c = omega (arith, c .half-of .ensures, half-high (c .before .before .before .args .burst))
+add-or-refused : tie.Need-add-or-refused
+add-or-refused c = omega (arith, c .before .half-of .ensures, half-high (c .before .before .args .burst))
 
--- past the first refusals
-zero : (c : tie.Else1) → firstOf (pichRefusals (c .before .before .args .burst) (c .before .before .args .length)) ≡ 0
-zero c = sym (c .before .pich-refusal .ensures) ∙ c .if1 .left
+add-or-refused-2 : tie.Need-add-or-refused-2
+add-or-refused-2 c = omega (arith, c .before .half-of .ensures, half-high (c .before .before .args .burst))
 
-returns-2 : tie.Need-returns-2
-returns-2 c = outside _ _ _ (zero (c .before .before)) _ (c .before .half-of .ensures) (c .if2 .taken)
+or-refused-requires : tie.Need-or-refused-requires
+or-refused-requires c κs = search needs
+
+returns : tie.Need-returns
+returns c =
+    let d = c .before in
+    is-refused _ _ _ _ _ _ (d .before .before .half-of .ensures) (d .before .pich-refusal .ensures) (d .or-refused .ensures) (c .if1 .taken)
+
+-- the half that was found is small
+half-small : (c : tie.Else1) → c .before .before .before .half-of .result ≤ 136
+half-small c = omega (arith, c .before .before .before .half-of .ensures, half-high (c .before .before .before .before .args .burst))
 
 is-reserved-requires : tie.Need-is-reserved-requires
-is-reserved-requires c κs = omega (arith, c .before .half-of .ensures, half-high (c .before .before .before .before .args .burst))
+is-reserved-requires c κs = half-small c
+
+returns-2 : tie.Need-returns-2
+returns-2 c =
+    let e = c .before .before in
+    let d = e .before in
+    is-reserved _ _ _ _ _ _ (d .before .before .half-of .ensures) (d .before .pich-refusal .ensures) (d .or-refused .ensures) (e .if1 .left)
+    (sym (c .before .is-reserved .ensures) ∙ c .if2 .taken)
+
+in-half-requires : tie.Need-in-half-requires
+in-half-requires c κs = (half-small (c .before .before), sym (c .before .is-reserved .ensures) ∙ c .if2 .left)
+
+div-t8 : tie.Need-div-t8
+div-t8 c =
+    let e = c .before .before .before in
+    let d = e .before in
+    fitting _ _ (d .before .before .before .args .bit) _ _ _ (d .before .before .half-of .ensures) (d .before .pich-refusal .ensures) (d .or-refused .ensures) (e .if1 .left) .length-low
 
 returns-3 : tie.Need-returns-3
 returns-3 c =
-    let d = c .before .before in
-    is-reserved _ _ _ (zero (d .before .before)) _ (d .before .half-of .ensures) (d .if2 .left) (sym (c .before .is-reserved .ensures) ∙ c .if3 .taken)
-
-in-half-requires : tie.Need-in-half-requires
-in-half-requires c κs =
-    let d = c .before .before in
-    (omega (arith, d .before .half-of .ensures, half-high (d .before .before .before .before .args .burst)), sym (c .before .is-reserved .ensures) ∙ c .if3 .left)
-
-div-t8 : tie.Need-div-t8
-div-t8 c = omega (arith, fits _ _ (zero (c .before .before .before .before .before)) .length-low)
-
-returns-4 : tie.Need-returns-4
-returns-4 c =
-    let e = c .before in
-    let d = e .before .before in
-    is-owned _ _ _ (zero (d .before .before)) _ (d .before .half-of .ensures) (d .if2 .left) (sym (e .before .is-reserved .ensures) ∙ e .if3 .left) _ (c .in-half .ensures)
+    let f = c .before in
+    let e = f .before .before in
+    let d = e .before in
+    is-owned _ _ _ _ _ _ (d .before .before .half-of .ensures) (d .before .pich-refusal .ensures) (d .or-refused .ensures) (e .if1 .left)
+    (sym (f .before .is-reserved .ensures) ∙ f .if2 .left) _ (c .in-half .ensures)
 
 pub owner-spec : {M : Type 1} → statement M
 owner-spec =
     tie.close
     (tie.spec
-    pich-refusal-requires
-    returns
     half-of-requires
-    add-if2
-    add-if2-2
-    returns-2
+    pich-refusal-requires
+    add-or-refused
+    add-or-refused-2
+    or-refused-requires
+    returns
     is-reserved-requires
-    returns-3
+    returns-2
     in-half-requires
     div-t8
-    returns-4)
+    returns-3)

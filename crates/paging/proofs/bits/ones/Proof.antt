@@ -12,8 +12,6 @@ use Rattle.paging.specs.Paging.{asBit, onesFrom}
 use Rattle.paging.proofs.Counted.{as-bit-most, ones-none, ones-turn, ones-most}
 use Rattle.paging.proofs.bits.ones.Statement.{statement}
 use Rattle.paging.proofs.bits.ones.Tie as tie
-use Rattle.paging.proofs.bits.ones.Reads as reads
-use Rattle.paging.proofs.bits.ones.Lts as lts
 
 abbrev Inv-loop : tie.InvT-loop
 Inv-loop bits from count sum₀ j₀ sum j = (j ≤ count) × (sum ≡ onesFrom bits from j)

@@ -1,225 +1,142 @@
-//! One booking in the class book of the built static library, beside the same in plain Rust, in one run.
-//!
-//! First both must give the same answers: for each number of bookings, and for rows of thrown requests with the book that they leave. Then both book one
-//! code more, again and again, into a book with 0, 60, 120 and 239 bookings, in rounds in which library and plain Rust take turns; the best round of each
-//! is kept. The making of the book is timed by a round of no booking and taken off. A booking may cost at most 1.5 times plain Rust, or the run fails.
-//!
-//! `benchmarks/book` builds and runs this. Standard library only.
+//! The class book over C: the caller's 5,232 bytes go in by value, all of them are tested, and the new book comes back by value.
 
-mod plain_book;
-
-use plain_book::{book_code, empty_book, open_seat, Book, Direction, Request};
+use crate::answers::{MqBook, MqBookAnswer, BOOK_BYTES};
+use crate::dice::{same, Dice};
+use crate::library;
+use crate::plain::book as plain;
+use crate::table::Line;
 use std::hint::black_box;
-use std::process::exit;
-use std::time::Instant;
 
-const LIMIT: f64 = 1.5;
-const ROUNDS: usize = 61;
-const TIMES: u32 = 400;
-const BOOKINGS: [u32; 4] = [0, 60, 120, 239];
+/// What was compared, and how often each refusal came.
+#[derive(Default)]
+struct Tally {
+    calls: u32,
+    seen: [u32; 22],
+}
 
-/// The library, over C.
-mod library {
-    mod c {
-        extern "C" {
-            pub fn bench_book(bookings: u32, times: u32) -> u32;
-            pub fn bench_mixed(seed: u32, calls: u32) -> u32;
+impl Tally {
+    fn both(&mut self, what: &str, library: MqBookAnswer, plain: MqBookAnswer) -> MqBook {
+        same(library.refusal, plain.refusal, || what.to_string());
+        if library.book != plain.book {
+            same("a book", "another book", || what.to_string());
         }
+        self.calls += 1;
+        self.seen[library.refusal as usize] += 1;
+        library.book
     }
 
-    pub fn book(bookings: u32, times: u32) -> u32 {
-        // SAFETY: plain numbers, and the call asks nothing of them.
-        unsafe { c::bench_book(bookings, times) }
-    }
-
-    pub fn mixed(seed: u32, calls: u32) -> u32 {
-        // SAFETY: plain numbers, and the call asks nothing of them.
-        unsafe { c::bench_mixed(seed, calls) }
+    fn list(&mut self, b: MqBook, seat: u32, length: usize) {
+        let (mut ours, mut theirs) = ([0xA5; 400], [0xA5; 400]);
+        let r = library::list(b, seat, &mut ours[..length]);
+        let s = plain::list(b, seat, &mut theirs[..length]);
+        same((r, ours), (s, theirs), || format!("list {seat}, {length} bytes lent"));
+        self.calls += 1;
+        self.seen[r.refusal as usize] += 1;
     }
 }
 
-/// The same work as crates/bench_book, over plain_book.
-mod plain {
-    use super::*;
-
-    fn seat_of(j: u32) -> u32 {
-        if j < 160 {
-            j % 16
-        } else {
-            j % 8
-        }
+/// Timeslot, direction, burst type, factor, index, user, TFCI bits, TPC bits: mostly allowed.
+fn request(dice: &mut Dice) -> [u32; 8] {
+    let direction = dice.one_of(&[0, 0, 0, 1]);
+    let factor = dice.one_of(if direction == 0 { &[16, 16, 16, 16, 16, 16, 8, 4, 2, 1] } else { &[16, 16, 16, 1] });
+    let burst = dice.one_of(&[1, 1, 1, 1, 2, 3]);
+    let mut x = [dice.below(15), direction, burst, factor, 1 + dice.below(factor), 1 + dice.below(if burst == 2 { 6 } else { 16 }), dice.one_of(&[0, 4, 8, 16, 32]), 0];
+    if dice.below(12) == 0 {
+        x[dice.below(8) as usize] = dice.one_of(&[0, 1, 2, 3, 7, 15, 16, 17, 33, u32::MAX]);
     }
+    x
+}
 
-    fn request_of(j: u32, user: u32) -> Request {
-        let p = if j < 160 { j / 16 } else { (j - 160) / 8 + 10 };
-        Request {
-            timeslot: 1 + p % 14 * 5 % 14,
-            direction: Direction::Up,
-            burst: 1,
-            factor: 16,
-            index: 1 + p / 14 % 16,
-            user,
-            tfci: 0,
-            tpc: 0,
+/// A call on both sides, and the book that it leaves.
+fn call(tally: &mut Tally, dice: &mut Dice, b: MqBook) -> MqBook {
+    // Three seats get more than others, so that they fill.
+    let seat = if dice.below(3) == 0 { dice.below(17) } else { dice.below(3) };
+    match dice.below(200) {
+        0..=9 => {
+            let [cell, sync, k] = [dice.below(130), dice.one_of(&[1, 1, 2, 2, 3]), dice.below(8)];
+            let [long, short] = [dice.one_of(&[0, 8, 16, 16, 7]), dice.one_of(&[0, 3, 6, 6, 5])];
+            let what = format!("open {seat} {cell} {sync} {k} {long} {short}");
+            tally.both(&what, library::open(b, seat, cell, sync, k, long, short), plain::open(b, seat, cell, sync, k, long, short))
         }
-    }
-
-    fn booked(n: u32) -> Book {
-        let mut b = empty_book();
-        for i in 0..16 {
-            b = open_seat(b, i, i, 1, 0, 0, 0).book;
+        10..=19 => {
+            let [timeslot, _, _, factor, index, ..] = request(dice);
+            let what = format!("cancel {seat} {timeslot} {factor} {index}");
+            tally.both(&what, library::cancel(b, seat, timeslot, factor, index), plain::cancel(b, seat, timeslot, factor, index))
         }
-        for j in 0..n {
-            b = book_code(b, seat_of(j), request_of(j, 1)).book;
+        // A booking that is there, if the seat has one.
+        20..=29 => {
+            let place = seat as usize % 16 * 327 + 7 + 8 * dice.below(10) as usize;
+            let [timeslot, factor, index] = [b.0[place] as u32, b.0[place + 3] as u32, b.0[place + 4] as u32];
+            let what = format!("cancel {seat} {timeslot} {factor} {index}");
+            tally.both(&what, library::cancel(b, seat, timeslot, factor, index), plain::cancel(b, seat, timeslot, factor, index))
         }
-        b
-    }
-
-    #[inline(never)]
-    pub fn book(bookings: u32, times: u32) -> u32 {
-        let mut b = booked(bookings);
-        let seat = seat_of(bookings);
-        let i = seat as usize;
-        let s = b.seats[i];
-        let mut sum = 0u32;
-        for t in 0..times {
-            let a = book_code(b, seat, request_of(bookings, 1 + t % 16));
-            b = a.book;
-            sum = sum.wrapping_add(a.refusal).wrapping_add(b.seats[i].count as u32);
-            b.seats[i] = s;
+        30 => tally.both(&format!("close {seat}"), library::close(b, seat), plain::close(b, seat)),
+        31..=40 => {
+            tally.list(b, seat, dice.one_of(&[0, 319, 320, 321, 400]));
+            b
         }
-        sum
-    }
-
-    fn next(x: u32) -> u32 {
-        (x % 65536 * 4093 + 12345) % 65536
-    }
-
-    fn thrown(x: u32) -> Request {
-        let a = next(x);
-        let b = next(a);
-        let c = next(b);
-        let f = c / 16;
-        Request {
-            timeslot: a / 64 % 16,
-            direction: if b / 16 % 3 == 0 {
-                Direction::Down
-            } else {
-                Direction::Up
-            },
-            burst: 1 + b / 256 % 17 / 14,
-            factor: if f % 8 == 0 {
-                1
-            } else if f % 8 == 1 {
-                8
-            } else if f % 64 == 2 {
-                3
-            } else {
-                16
-            },
-            index: 1 + c / 256 % 16,
-            user: 1 + a / 1024 % 17,
-            tfci: b / 2048 % 20 / 18 * 4,
-            tpc: c / 4096 % 14 / 12,
+        _ => {
+            let x = request(dice);
+            tally.both(&format!("book {seat} {x:?}"), library::book(b, seat, x), plain::book(b, seat, x))
         }
-    }
-
-    /// The sum, and how often each refusal came.
-    pub fn mixed(seed: u32, calls: u32, seen: &mut [u32; 22]) -> u32 {
-        let mut b = empty_book();
-        for i in 0..16 {
-            b = open_seat(b, i, i, 1 + i % 2, i % 8, i % 3 * 8, i % 4 * 3).book;
-        }
-        let mut sum = seed % 65536;
-        let mut x = seed % 65536;
-        for _ in 0..calls {
-            x = next(x);
-            let a = book_code(b, x / 16 % 17, thrown(x));
-            b = a.book;
-            seen[a.refusal as usize] += 1;
-            sum = next(sum ^ a.refusal);
-        }
-        for s in &b.seats {
-            sum = next(sum ^ s.count as u32);
-            for y in &s.row {
-                sum = next(sum ^ y.timeslot as u32);
-                sum = next(sum ^ y.index as u32);
-                sum = next(sum ^ y.user as u32);
-            }
-        }
-        sum
     }
 }
 
-fn compare() {
-    for bookings in 0..=300 {
-        let (a, b) = (library::book(bookings, 3), plain::book(bookings, 3));
-        if a != b {
-            eprintln!("differ: {bookings} bookings: {a} {b}");
-            exit(1);
+/// Rows of thrown calls, the book going on from call to call; and each call now and then on a copy of the book with a byte or two changed.
+pub fn compare() -> u32 {
+    let mut tally = Tally::default();
+    for seed in 0..20 {
+        let mut dice = Dice::new(seed + 10);
+        let mut b = library::empty_book();
+        if b != plain::empty() {
+            same("an empty book", "another", String::new);
         }
-    }
-    let mut seen = [0; 22];
-    for seed in 0..200 {
-        let calls = 5 * seed;
-        let (a, b) = (library::mixed(seed, calls), plain::mixed(seed, calls, &mut seen));
-        if a != b {
-            eprintln!("differ: thrown requests, seed {seed}: {a} {b}");
-            exit(1);
-        }
-    }
-    println!("equal on both sides: 0 to 300 bookings, and 200 rows of thrown requests with the books they leave");
-    let said: Vec<String> = (0..22).filter(|&n| seen[n] > 0).map(|n| format!("{n}: {}", seen[n])).collect();
-    println!("answers of the thrown requests by refusal (0: booked): {}", said.join(", "));
-}
-
-/// Nanoseconds of the making of a book and of so many bookings more.
-fn timed(f: impl Fn(u32, u32) -> u32, bookings: u32, times: u32) -> f64 {
-    let start = Instant::now();
-    black_box(f(black_box(bookings), black_box(times)));
-    start.elapsed().as_nanos() as f64
-}
-
-fn main() {
-    compare();
-    // For each number of bookings and each side: the best round of the making alone, and with the bookings more.
-    let mut rounds = [[[f64::INFINITY; 2]; 2]; 4];
-    for round in 0..ROUNDS {
-        for (n, sides) in BOOKINGS.iter().zip(&mut rounds) {
-            for side in [round % 2, 1 - round % 2] {
-                for (best, times) in sides[side].iter_mut().zip([0, TIMES]) {
-                    let ns = if side == 0 {
-                        timed(library::book, *n, times)
-                    } else {
-                        timed(plain::book, *n, times)
-                    };
-                    *best = best.min(ns);
+        for _ in 0..4000 {
+            b = call(&mut tally, &mut dice, b);
+            if dice.below(4) == 0 {
+                let mut damaged = b;
+                for _ in 0..=dice.below(2) {
+                    damaged.0[dice.below(BOOK_BYTES as u32) as usize] = dice.one_of(&[0, 1, 1, 2, 3, 16, 40, 41, 255]);
                 }
+                call(&mut tally, &mut dice, damaged);
             }
         }
     }
-    let best = rounds.map(|sides| sides.map(|[making, all]| (all - making) / TIMES as f64));
-    println!("ns a booking, best of {ROUNDS} rounds of {TIMES}");
-    println!("{:<10}{:>10}{:>12}{:>8}", "bookings", "library", "plain Rust", "ratio");
-    let mut worst: f64 = 0.0;
-    for (n, [library, plain]) in BOOKINGS.iter().zip(best) {
-        let ratio = library / plain;
-        worst = worst.max(ratio);
-        println!("{n:<10}{library:>10.0}{plain:>12.0}{ratio:>8.2}");
+    let unseen: Vec<usize> = [0, 1, 2, 3, 4, 5, 6, 7, 8, 9, 11, 12, 13, 14, 15, 16, 17, 18, 19, 20, 21].into_iter().filter(|n| tally.seen[*n] == 0).collect();
+    same(unseen, vec![], || "refusals of the class book that were never met".to_string());
+    tally.calls
+}
+
+/// Fifteen open seats with eight bookings each, and one that is closed.
+fn class_book() -> MqBook {
+    let mut b = plain::empty();
+    for seat in 0..15 {
+        b = plain::open(b, seat, seat, 1, 0, 0, 0).book;
+        for turn in 0..8 {
+            b = plain::book(b, seat, wanted(turn)).book;
+        }
     }
-    for (side, name) in ["library", "plain Rust"].iter().enumerate() {
-        let ns = best.map(|b| b[side]);
-        println!(
-            "{name}: {:.2} times from 0 to 239 bookings; ns for each further booking: {:.1} to 60, {:.1} to 120, {:.1} to 239",
-            ns[3] / ns[0],
-            (ns[1] - ns[0]) / 60.0,
-            (ns[2] - ns[1]) / 60.0,
-            (ns[3] - ns[2]) / 119.0
-        );
-    }
-    if worst > LIMIT {
-        println!("TOO SLOW: a booking takes {worst:.2} times plain Rust; at most {LIMIT} is asked");
-        exit(1);
-    }
-    println!("ok: a booking takes at most {worst:.2} times plain Rust; at most {LIMIT} is asked");
+    b
+}
+
+/// The booking of a seat's turn: not in list order.
+fn wanted(turn: u32) -> [u32; 8] {
+    [1 + turn * 5 % 14, 0, 1, 16, 1, 1 + turn, 0, 0]
+}
+
+pub fn lines() -> Vec<Line> {
+    let b = class_book();
+    let cells = (0..60).collect();
+    let seats = || (0..60).map(|i| i % 15).collect();
+    let more = (0..60).map(|i| (i % 15, wanted(8 + i / 15))).collect();
+    let fewer = (0..60).map(|i| (i % 15, wanted(i % 8)[0])).collect();
+    let (mut ours, mut theirs) = ([0; 320], [0; 320]);
+    vec![
+        Line::new("empty book", vec![(); 200], |_| library::empty_book(), |_| plain::empty()),
+        Line::new("open", cells, move |&cell| library::open(*black_box(&b), 15, cell, 1, 0, 0, 0), move |&cell| plain::open(*black_box(&b), 15, cell, 1, 0, 0, 0)),
+        Line::new("book", more, move |&(seat, x)| library::book(*black_box(&b), seat, x), move |&(seat, x)| plain::book(*black_box(&b), seat, x)),
+        Line::new("cancel", fewer, move |&(seat, t)| library::cancel(*black_box(&b), seat, t, 16, 1), move |&(seat, t)| plain::cancel(*black_box(&b), seat, t, 16, 1)),
+        Line::new("close", seats(), move |&seat| library::close(*black_box(&b), seat), move |&seat| plain::close(*black_box(&b), seat)),
+        Line::new("list", seats(), move |&seat| library::list(*black_box(&b), seat, black_box(&mut ours)), move |&seat| plain::list(*black_box(&b), seat, black_box(&mut theirs))),
+    ]
 }

@@ -1,4 +1,4 @@
-// What benchmarks/book measures: bookings in the class book, called over plain numbers. Nothing here is part of the library.
+// What benchmarks/run measures: bookings in the class book, called over plain numbers. Nothing here is part of the library.
 use classbook::Book;
 use classbook::Request;
 use timeslots::Direction;

@@ -1,3 +1,4 @@
 pub mod Turned
 pub mod Read
+pub mod Neither
 pub mod Unique

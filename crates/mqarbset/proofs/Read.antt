@@ -1,33 +1,121 @@
--- What a C caller reads off the struct is document 01's answer: nothing is lost on the way. Cited by no proof: it is for the reader of the promises.
+-- What a C caller reads off a struct is document 01's answer: nothing is lost on the way. Cited by no proof: it is for the reader of the promises.
 -- Assumes nothing.
 use mathlib.Core.Path.{_≡_, refl, ap}
 use mathlib.Core.Bool.{Bool, true, false, cond}
-use mathlib.Core.List.{List}
-use Prim.Native.Nat.{ℕ}
+use mathlib.Core.List.{List, [], _∷_}
+use Prim.Native.Nat.{ℕ, _+_, _-_}
 use lib.Dec.{eqb}
+use lib.ListN.{getD}
 use Rattle.refusals.specs.Refusals.{Answer, refused, answered, answer, _leaving_}
 use Rattle.midambles.specs.Calls.{chipAnswer, midambleOutcome}
+use Rattle.timeslots.specs.Timeslots.{Part, DATA1, TFCI1, MIDAMBLE, TPC, TFCI2, DATA2, GUARD, order, spans, sevenParts}
+use Rattle.timeslots.specs.declared.Direction.{Direction}
+use Rattle.timeslots.specs.Calls.{partsAnswer, atAnswer}
+use Rattle.beacons.specs.Beacons.{beaconsOf}
+use Rattle.beacons.specs.Calls.{beaconAnswer}
+use Rattle.paging.specs.Paging.{placeOf, Owner, reserved, owned}
+use Rattle.paging.specs.Calls.{indicatorAnswer, ownerAnswer, writeOutcome, readOutcome}
+use Rattle.classbook.specs.declared.Book.{Book}
+use Rattle.mqarbset_book.specs.Records.{recordsOutcome}
+use Rattle.mqarbset_words.specs.Words.{putting, wordsOutcome}
 use Rattle.mqarbset.specs.Calls.{asC, asCLeaving, saidInC}
+use Rattle.mqarbset.specs.Slots.{partsAsC, partNumber, placeAsC, beaconsAsC, zipped, partsInC, placeInC, beaconsInC}
+use Rattle.mqarbset.specs.Pages.{indicatorAsC, ownerAsC, indicatorInC, ownerInC}
 
--- of every answer that goes by a first refusal's number; z is whether that is 0
-by-test : (z : Bool) (n v : ℕ) → eqb n 0 ≡ z → saidInC (asC (cond z (answered v) (refused n))) ≡ cond z (answered v) (refused n)
-unfolding saidInC asC
-by-test true n v e = refl
-by-test false n v e = simp e
+-- an answer that goes by a first refusal's number is read back if its value is
+module _ {A S : Type 0} (write : Answer A → S) (read : S → Answer A) (no-refusal : (n : ℕ) → eqb n 0 ≡ false → read (write (refused n)) ≡ refused n) where
+  by-test : (z : Bool) (n : ℕ) (v : A) → eqb n 0 ≡ z → (eqb n 0 ≡ true → read (write (answered v)) ≡ answered v) → read (write (cond z (answered v) (refused n))) ≡ cond z (answered v) (refused n)
+  by-test true n v e h = h e
+  by-test false n v e h = no-refusal n e
+
+  pub back : (n : ℕ) (v : A) → (eqb n 0 ≡ true → read (write (answered v)) ≡ answered v) → read (write (answer n v)) ≡ answer n v
+  unfolding answer
+  back n v h = by-test (eqb n 0) n v refl h
+
+-- ---- a value
 
 pub read-answer : (n v : ℕ) → saidInC (asC (answer n v)) ≡ answer n v
-unfolding answer
-read-answer n v = by-test (eqb n 0) n v refl
-
-pub read-leaving : (n v : ℕ) (m : List ℕ) → saidInC (asCLeaving (answer n v leaving m) .0) leaving asCLeaving (answer n v leaving m) .1 ≡ answer n v leaving m
-unfolding asCLeaving
-read-leaving n v m = ap (λ (a : Answer ℕ). a leaving m) (read-answer n v)
+unfolding saidInC asC
+read-answer n v = back asC saidInC (λ m e. simp e) n v (λ _. refl)
 
 pub read-chip : (cell burst count user chip : ℕ) → saidInC (asC (chipAnswer cell burst count user chip)) ≡ chipAnswer cell burst count user chip
 unfolding chipAnswer
 read-chip cell burst count user chip = read-answer _ _
 
+-- ---- a value, and lent memory
+
+pub read-leaving : (n v : ℕ) (m : List ℕ) → saidInC (asCLeaving (answer n v leaving m) .0) leaving asCLeaving (answer n v leaving m) .1 ≡ answer n v leaving m
+unfolding asCLeaving
+read-leaving n v m = ap (λ (a : Answer ℕ). a leaving m) (read-answer n v)
+
 pub read-midamble : (cell burst count user : ℕ) (out : List ℕ)
     → saidInC (asCLeaving (midambleOutcome cell burst count user out) .0) leaving asCLeaving (midambleOutcome cell burst count user out) .1 ≡ midambleOutcome cell burst count user out
 unfolding midambleOutcome
 read-midamble cell burst count user out = read-leaving _ _ _
+
+pub read-list : (b : Book) (seat : ℕ) (out : List ℕ)
+    → saidInC (asCLeaving (recordsOutcome b seat out) .0) leaving asCLeaving (recordsOutcome b seat out) .1 ≡ recordsOutcome b seat out
+unfolding recordsOutcome
+read-list b seat out = read-leaving _ _ _
+
+pub read-page : (burst length : ℕ) (settings out : List ℕ)
+    → saidInC (asCLeaving (writeOutcome burst length settings out) .0) leaving asCLeaving (writeOutcome burst length settings out) .1 ≡ writeOutcome burst length settings out
+unfolding writeOutcome
+read-page burst length settings out = read-leaving _ _ _
+
+pub read-read-page : (burst length : ℕ) (bits out : List ℕ)
+    → saidInC (asCLeaving (readOutcome burst length bits out) .0) leaving asCLeaving (readOutcome burst length bits out) .1 ≡ readOutcome burst length bits out
+unfolding readOutcome
+read-read-page burst length bits out = read-leaving _ _ _
+
+pub read-text : (number : ℕ) (out : List ℕ) → saidInC (asCLeaving (wordsOutcome number out) .0) leaving asCLeaving (wordsOutcome number out) .1 ≡ wordsOutcome number out
+unfolding wordsOutcome putting
+read-text number out = read-leaving _ _ _
+
+-- ---- the other structs
+
+pub read-parts : (burst : ℕ) (d : Direction) (factor tfci tpc : ℕ) → partsInC (partsAsC (partsAnswer burst d factor tfci tpc)) ≡ partsAnswer burst d factor tfci tpc
+unfolding partsInC partsAsC partsAnswer sevenParts spans zipped
+read-parts burst d factor tfci tpc = back partsAsC partsInC (λ m e. simp e) _ _ (λ _. refl)
+
+part-back : (p : Part) → getD order (partNumber p - 1) GUARD ≡ p
+unfolding order partNumber
+part-back DATA1 = refl
+part-back TFCI1 = refl
+part-back MIDAMBLE = refl
+part-back TPC = refl
+part-back TFCI2 = refl
+part-back DATA2 = refl
+part-back GUARD = refl
+
+place-back : (a : Part × ℕ) → placeInC (placeAsC (answered a)) ≡ answered a
+unfolding placeInC placeAsC
+place-back a = ap (λ (p : Part). answered (p, a .1)) (part-back (a .0))
+
+pub read-at : (burst : ℕ) (d : Direction) (factor tfci tpc chip : ℕ) → placeInC (placeAsC (atAnswer burst d factor tfci tpc chip)) ≡ atAnswer burst d factor tfci tpc chip
+unfolding placeInC placeAsC atAnswer
+read-at burst d factor tfci tpc chip = back placeAsC placeInC (λ m e. simp e) _ _ (λ _. place-back _)
+
+pub read-indicator : (burst length frames number : ℕ) → indicatorInC (indicatorAsC (indicatorAnswer burst length frames number)) ≡ indicatorAnswer burst length frames number
+unfolding indicatorInC indicatorAsC indicatorAnswer placeOf
+read-indicator burst length frames number = back indicatorAsC indicatorInC (λ m e. simp e) _ _ (λ _. refl)
+
+owner-back : (o : Owner) → ownerInC (ownerAsC (answered o)) ≡ answered o
+unfolding ownerInC ownerAsC
+owner-back reserved = refl
+owner-back (owned q) = refl
+
+pub read-owner : (burst length bit : ℕ) → ownerInC (ownerAsC (ownerAnswer burst length bit)) ≡ ownerAnswer burst length bit
+unfolding ownerInC ownerAsC ownerAnswer
+read-owner burst length bit = back ownerAsC ownerInC (λ m e. simp e) _ _ (λ _. owner-back _)
+
+-- the case is 1 or 2 where it was not refused
+beacons-back : (one two : Bool) (k : ℕ) (l : List ℕ) → l ≡ cond one (k ∷ []) (cond two (k ∷ (k + 8) ∷ []) []) → beaconsInC (beaconsAsC (answered l)) ≡ answered l
+unfolding beaconsInC beaconsAsC
+beacons-back true two k l e = rw e
+beacons-back false true k l e = rw e
+beacons-back false false k l e = rw e
+
+pub read-beacon : (case k : ℕ) → beaconsInC (beaconsAsC (beaconAnswer case k)) ≡ beaconAnswer case k
+unfolding beaconsInC beaconsAsC beaconAnswer beaconsOf
+read-beacon case k = back beaconsAsC beaconsInC (λ m e. simp e) _ _ (λ _. beacons-back (eqb case 1) (eqb case 2) k _ refl)

@@ -82,8 +82,10 @@ pub fn off_beacon(sync: u8, k: u8, x: Booking) -> bool
     ensures { λ r. ⌜ r ≡ offBeacon sync k x ⌝ }
 {
     let there = beacons::is_beacon(sync as u32, k as u32, x.timeslot as u32);
-    let breaks = bookings::breaks_beacon(x);
-    there & breaks
+    if !there {
+        return false;
+    }
+    bookings::breaks_beacon(x)
 }
 
 // Whether a booking may stand in a seat of these settings, the others left out.
@@ -91,9 +93,15 @@ fn may_stand(long: u8, short: u8, sync: u8, k: u8, x: Booking) -> bool
     ensures { λ r. ⌜ r ≡ stands long short sync k x ⌝ }
 {
     let form = bookings::form_of(x);
+    if form != 0 {
+        return false;
+    }
     let above = above_count(long, short, x);
+    if above {
+        return false;
+    }
     let off = off_beacon(sync, k, x);
-    (form == 0) & (!above & !off)
+    !off
 }
 
 // Whether of the first n each may stand, each may stand before its neighbour, and every place from n on is blank. Neighbours are enough for all pairs among

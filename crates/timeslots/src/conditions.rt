@@ -1,5 +1,7 @@
 // Document 01, "Refusal numbers": 2, 6, 7 and 8 of a timeslot.
 use crate::Direction;
+ghost use lib.Dec.{eqb};
+ghost use mathlib.Core.Bool.{_||_};
 ghost use mathlib.Core.Path.{_≡_};
 ghost use Rattle.refusals.specs.Refusals.{firstOf};
 ghost use Rattle.timeslots.specs.Conditions.{isDown, badFactor, badDownFactor, badDownType, badControl};
@@ -18,7 +20,14 @@ pub fn is_down(direction: Direction) -> bool
 pub fn bad_factor(factor: u32) -> bool
     ensures { λ r. ⌜ r ≡ badFactor factor ⌝ }
 {
-    !((factor == 1) | (factor == 2) | (factor == 4) | (factor == 8) | (factor == 16))
+    match factor {
+        1 => false,
+        2 => false,
+        4 => false,
+        8 => false,
+        16 => false,
+        _ => true,
+    }
 }
 
 // Refusal 6: downlink with a factor other than 1 or 16.
@@ -35,13 +44,25 @@ pub fn bad_down_type(direction: Direction, burst: u32) -> bool
     is_down(direction) & (burst == 3)
 }
 
+// "TFCI bits .. 0, 4, 8, 16, 32"
+fn fits_tfci(tfci: u32) -> bool
+    ensures { λ r. ⌜ r ≡ (eqb tfci 0 || eqb tfci 4 || eqb tfci 8 || eqb tfci 16 || eqb tfci 32) ⌝ }
+{
+    match tfci {
+        0 => true,
+        4 => true,
+        8 => true,
+        16 => true,
+        32 => true,
+        _ => false,
+    }
+}
+
 // Refusal 8: TFCI bits not 0, 4, 8, 16 or 32; TPC bits not 0 or 2; TPC 2 in downlink.
 pub fn bad_control(direction: Direction, tfci: u32, tpc: u32) -> bool
     ensures { λ r. ⌜ r ≡ badControl direction tfci tpc ⌝ }
 {
-    !((tfci == 0) | (tfci == 4) | (tfci == 8) | (tfci == 16) | (tfci == 32))
-        | !((tpc == 0) | (tpc == 2))
-        | (is_down(direction) & (tpc == 2))
+    !fits_tfci(tfci) | !((tpc == 0) | (tpc == 2)) | (is_down(direction) & (tpc == 2))
 }
 
 // The number of the first refusal of `parts`, or 0.

@@ -1,21 +1,28 @@
--- `bookings::clash_over` meets its contract: its tests are those of the definition.
+-- `bookings::clash_over` meets its contract: in two timeslots they do not clash, and in one its tests are those of the definition.
 -- Assumes nothing.
-use mathlib.Core.Path.{_≡_}
+use mathlib.Core.Path.{_≡_, sym, ap}
 use mathlib.Core.Bool.{Bool, not, _&&_, _||_}
 use Prim.Native.Nat.{ℕ, _+_}
 use lib.Dec.{eqb, ltb}
+use borrow.Author.Tests.{eq-eqb, ne-eqb}
+use Rattle.laws.proofs.Bools.{fails-first}
 use Rattle.bookings.specs.declared.Booking.{Booking}
 use Rattle.bookings.specs.Bookings.{leaf, leavesOf, overlaps, sameDirection, mixed, clash}
 use borrow.Author.Needs.{needs}
 use Rattle.bookings.proofs.clash_over.Statement.{statement}
 use Rattle.bookings.proofs.clash_over.Tie as tie
-use Rattle.bookings.proofs.same_direction.Reads as same-direction-reads
 
 as-defined : (x y : Booking) (a m b n : ℕ) (same : Bool) → a ≡ leaf x → m ≡ leavesOf (x .factor) → b ≡ leaf y → n ≡ leavesOf (y .factor)
-    → same ≡ sameDirection (x .direction) (y .direction)
-    → (eqb (x .timeslot) (y .timeslot) && (not same || (not (eqb (x .burst) (y .burst)) || (ltb a (b + n) && ltb b (a + m))))) ≡ clash x y
+    → same ≡ sameDirection (x .direction) (y .direction) → x .timeslot ≡ y .timeslot
+    → (not same || (not (eqb (x .burst) (y .burst)) || (ltb a (b + n) && ltb b (a + m)))) ≡ clash x y
 unfolding clash overlaps mixed
-as-defined x y a m b n same ea em eb en es = rw (ea, em, eb, en, es)
+as-defined x y a m b n same ea em eb en es t =
+    rw (ea, em, eb, en, es)
+    (ap (λ (one : Bool). one && (not (sameDirection (x .direction) (y .direction)) || (mixed (x .burst) (y .burst) || overlaps x y))) (sym (eq-eqb (x .timeslot) (y .timeslot) t)))
+
+returns : tie.Need-returns
+unfolding clash
+returns c = fails-first _ _ (sym (ne-eqb _ _ (c .if1 .taken)))
 
 same-direction-requires : tie.Need-same-direction-requires
 same-direction-requires c κs = search needs
@@ -26,10 +33,12 @@ add-over c = search needs
 add-over-2 : tie.Need-add-over-2
 add-over-2 c = search needs
 
-returns : tie.Need-returns
-returns c =
-    let q = c .before .before .before .before .before .pre in
-    as-defined _ _ _ _ _ _ _ (q .0) (q .1) (q .2) (q .3) (c .before .before .before .before .same-direction .ensures)
+returns-2 : tie.Need-returns-2
+returns-2 c =
+    let e = c .before .before .before in
+    let q = e .before .before .before .pre in
+    as-defined _ _ _ _ _ _ _ (q .0) (q .1) (q .2) (q .3) (c .before .before .same-direction .ensures) (e .if1 .left)
 
 pub clash-over-spec : {M : Type 1} → statement M
-clash-over-spec = tie.close (tie.spec same-direction-requires add-over add-over-2 returns)
+clash-over-spec =
+    tie.close (tie.spec returns same-direction-requires add-over add-over-2 returns-2)

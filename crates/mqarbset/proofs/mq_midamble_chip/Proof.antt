@@ -2,6 +2,7 @@
 -- Assumes nothing.
 use borrow.Author.Needs.{needs}
 use Rattle.midambles.specs.Calls.{saidOfChip}
+use Rattle.mqarbset.specs.Calls.{asC}
 use Rattle.mqarbset.proofs.Turned.{turned}
 use Rattle.mqarbset.proofs.mq_midamble_chip.Statement.{statement}
 use Rattle.mqarbset.proofs.mq_midamble_chip.Tie as tie
@@ -26,11 +27,11 @@ giving-requires c κs = search needs
 
 returns : tie.Need-returns
 unfolding saidOfChip
-returns c = turned saidOfChip _ _ _ (c .before .before .r .given .1) (c .refusing .ensures) _ (c .before .before .before .before .midamble-chip .ensures)
+returns c = turned saidOfChip asC _ _ _ (c .before .before .r .given .1) (c .refusing .ensures) _ (c .before .before .before .before .midamble-chip .ensures)
 
 returns-2 : tie.Need-returns-2
 unfolding saidOfChip
-returns-2 c = turned saidOfChip _ _ _ (c .before .before .r2 .given .1) (c .giving .ensures) _ (c .before .before .before .before .midamble-chip .ensures)
+returns-2 c = turned saidOfChip asC _ _ _ (c .before .before .r2 .given .1) (c .giving .ensures) _ (c .before .before .before .before .midamble-chip .ensures)
 
 pub mq-midamble-chip-spec : {M : Type 1} → statement M
 mq-midamble-chip-spec =

@@ -1,6 +1,7 @@
-//! The same calls in plain Rust: the same tests and the same arithmetic for each chip, over tables that lie in memory.
+//! Midambles: the same tests and the same arithmetic for each chip as the library, over tables that lie in memory.
 
-use crate::{giving, refusing, rows, MqAnswer};
+use crate::answers::MqAnswer;
+use crate::rows;
 
 static LONG: [u8; 7296] = rows::table(b"long ", 57);
 static SHORT: [u8; 3072] = rows::table(b"short ", 24);
@@ -73,22 +74,21 @@ fn fill_from(t: &[u8], w: u32, n: u32, by: u32, count: usize, out: &mut [u8]) {
     }
 }
 
-// Not inlined into the timing loop: the library's calls cannot be either.
 #[inline(never)]
 pub fn chip(cell: u32, burst: u32, count: u32, user: u32, chip: u32) -> MqAnswer {
     let n = user_refusal(cell, burst, count, user);
     if n != 0 {
-        return refusing(n);
+        return MqAnswer::refusing(n);
     }
     let c = code_of(burst);
     if chip < 1 || chip > c.length {
-        return refusing(10);
+        return MqAnswer::refusing(10);
     }
     let by = shift(&c, user);
     if burst == 2 {
-        return giving(element_in(&SHORT, 24, cell, chip, by) as u32);
+        return MqAnswer::giving(element_in(&SHORT, 24, cell, chip, by) as u32);
     }
-    giving(element_in(&LONG, 57, cell, chip, by) as u32)
+    MqAnswer::giving(element_in(&LONG, 57, cell, chip, by) as u32)
 }
 
 #[inline(never)]
@@ -123,11 +123,11 @@ fn whole(
 ) -> MqAnswer {
     let n = user_refusal(cell, burst, count, user);
     if n != 0 {
-        return refusing(n);
+        return MqAnswer::refusing(n);
     }
     let c = code_of(burst);
     if out.len() < c.length as usize {
-        return refusing(11);
+        return MqAnswer::refusing(11);
     }
     let by = shift(&c, user);
     if burst == 2 {
@@ -135,5 +135,5 @@ fn whole(
     } else {
         fill(&LONG, 57, cell, by, 512, out);
     }
-    giving(c.length)
+    MqAnswer::giving(c.length)
 }

@@ -1,4 +1,7 @@
-//! The class book in plain Rust: the same layout, the same tests of the whole book, the same booking. A book goes in and comes back by value; inside, references.
+//! The class book: the same layout and the same tests of the whole book as the library's. A book goes in and comes back by value; inside, references.
+
+use crate::answers::{MqAnswer, MqBook, MqBookAnswer, BOOK_BYTES};
+use std::mem::{align_of, size_of};
 
 #[derive(Clone, Copy, PartialEq, Eq)]
 #[repr(u8)]
@@ -8,6 +11,7 @@ pub enum Direction {
 }
 
 #[derive(Clone, Copy, PartialEq, Eq)]
+#[repr(C)]
 pub struct Booking {
     pub timeslot: u8,
     pub direction: Direction,
@@ -31,6 +35,7 @@ const BLANK: Booking = Booking {
 };
 
 #[derive(Clone, Copy)]
+#[repr(C)]
 pub struct Seat {
     pub live: bool,
     pub cell: u8,
@@ -54,6 +59,7 @@ const CLOSED: Seat = Seat {
 };
 
 #[derive(Clone, Copy)]
+#[repr(C)]
 pub struct Book {
     pub seats: [Seat; 16],
 }
@@ -195,6 +201,24 @@ fn settings_refusal(cell: u32, long: u32, short: u32, sync: u32, k: u32) -> u32 
     0
 }
 
+/// A seat just opened with these settings. Refusals 1, 3, 9.
+fn opened(cell: u32, sync: u32, k: u32, long: u32, short: u32) -> Result<Seat, u32> {
+    let long = if long == 0 { 16 } else { long };
+    let short = if short == 0 { 6 } else { short };
+    match settings_refusal(cell, long, short, sync, k) {
+        0 => Ok(Seat {
+            live: true,
+            cell: cell as u8,
+            sync: sync as u8,
+            k: k as u8,
+            long: long as u8,
+            short: short as u8,
+            ..CLOSED
+        }),
+        refusal => Err(refusal),
+    }
+}
+
 impl Seat {
     fn held(&self) -> usize {
         (self.count as usize).min(40)
@@ -264,6 +288,12 @@ impl Seat {
         }
         self.count += 1;
     }
+
+    fn remove(&mut self, at: usize) {
+        self.row.copy_within(at + 1.., at);
+        self.row[39] = BLANK;
+        self.count -= 1;
+    }
 }
 
 impl Book {
@@ -275,23 +305,43 @@ impl Book {
         self.seats.iter().map(Seat::beyond_ten).sum()
     }
 
-    fn booking_refusal(&self, seat: u32, x: &Booking) -> u32 {
+    /// Refusals 12 to 14.
+    fn seat_refusal(&self, seat: u32) -> u32 {
         if !self.is_ok() {
-            return 12;
+            12
+        } else if seat > 15 {
+            13
+        } else if !self.seats[seat as usize].live {
+            14
+        } else {
+            0
         }
-        let Some(s) = self.seats.get(seat as usize) else {
-            return 13;
-        };
-        if !s.live {
-            return 14;
+    }
+
+    fn open(&mut self, seat: u32, settings: Seat) -> u32 {
+        match self.seat_refusal(seat) {
+            0 => 15,
+            14 => {
+                self.seats[seat as usize] = settings;
+                0
+            }
+            refusal => refusal,
         }
-        if s.above_count(x) {
+    }
+
+    fn book(&mut self, seat: u32, x: Booking) -> u32 {
+        let refusal = self.seat_refusal(seat);
+        if refusal != 0 {
+            return refusal;
+        }
+        let s = &self.seats[seat as usize];
+        if s.above_count(&x) {
             return 16;
         }
         if s.bookings().iter().any(|y| x.clashes(y)) {
             return 17;
         }
-        if s.off_beacon(x) {
+        if s.off_beacon(&x) {
             return 18;
         }
         if s.held() == 40 {
@@ -300,49 +350,139 @@ impl Book {
         if s.held() >= 10 && self.common_room() == 80 {
             return 20;
         }
+        self.seats[seat as usize].add(x);
         0
     }
+
+    fn cancel(&mut self, seat: u32, timeslot: u32, factor: u32, index: u32) -> u32 {
+        let refusal = self.seat_refusal(seat);
+        if refusal != 0 {
+            return refusal;
+        }
+        let s = &mut self.seats[seat as usize];
+        let named = |y: &Booking| y.timeslot as u32 == timeslot && y.factor as u32 == factor && y.index as u32 == index;
+        match s.bookings().iter().position(named) {
+            Some(at) => {
+                s.remove(at);
+                0
+            }
+            None => 21,
+        }
+    }
+
+    fn close(&mut self, seat: u32) -> u32 {
+        let refusal = self.seat_refusal(seat);
+        if refusal == 0 {
+            self.seats[seat as usize] = CLOSED;
+        }
+        refusal
+    }
 }
 
-pub fn open_seat(mut book: Book, seat: u32, cell: u32, sync: u32, k: u32, long: u32, short: u32) -> BookAnswer {
-    let long = if long == 0 { 16 } else { long };
-    let short = if short == 0 { 6 } else { short };
-    let mut refusal = settings_refusal(cell, long, short, sync, k);
-    if refusal == 0 {
-        refusal = if !book.is_ok() {
-            12
-        } else if seat > 15 {
-            13
-        } else if book.seats[seat as usize].live {
-            15
-        } else {
-            0
-        };
-    }
-    if refusal == 0 {
-        book.seats[seat as usize] = Seat {
-            live: true,
-            cell: cell as u8,
-            sync: sync as u8,
-            k: k as u8,
-            long: long as u8,
-            short: short as u8,
-            ..CLOSED
-        };
-    }
-    BookAnswer { refusal, book }
-}
-
-// Not inlined into the timing loop: a call is what is measured.
+/// A booking inside the program, the book by value: what growth.rs measures.
 #[inline(never)]
 pub fn book_code(mut book: Book, seat: u32, x: Request) -> BookAnswer {
     let mut refusal = x.refusal();
     if refusal == 0 {
-        let y = x.kept();
-        refusal = book.booking_refusal(seat, &y);
-        if refusal == 0 {
-            book.seats[seat as usize].add(y);
-        }
+        refusal = book.book(seat, x.kept());
     }
     BookAnswer { refusal, book }
+}
+
+pub fn open_seat(mut book: Book, seat: u32, cell: u32, sync: u32, k: u32, long: u32, short: u32) -> BookAnswer {
+    let refusal = match opened(cell, sync, k, long, short) {
+        Ok(settings) => book.open(seat, settings),
+        Err(refusal) => refusal,
+    };
+    BookAnswer { refusal, book }
+}
+
+// The calls on the caller's 5,232 bytes, by value. A caller's byte may be any: where one is neither of the two that `live` or `direction` can be, the book is refused as broken.
+
+impl Book {
+    fn of(bytes: &mut MqBook) -> Option<&mut Book> {
+        let seats = bytes.0.chunks_exact(size_of::<Seat>());
+        let fine = |seat: &[u8]| seat[0] < 2 && seat[7..].chunks_exact(8).all(|booking| booking[1] < 2);
+        if !seats.into_iter().all(fine) {
+            return None;
+        }
+        // SAFETY: both are BOOK_BYTES long and of alignment 1 (asserted below), and the only bytes of a Book that may not be any were just tested.
+        Some(unsafe { &mut *(bytes as *mut MqBook).cast::<Book>() })
+    }
+}
+
+const _: () = assert!(size_of::<Book>() == BOOK_BYTES && align_of::<Book>() == 1);
+
+fn changed(mut book: MqBook, change: impl FnOnce(&mut Book) -> u32) -> MqBookAnswer {
+    let refusal = Book::of(&mut book).map_or(12, change);
+    MqBookAnswer { refusal, book }
+}
+
+#[inline(never)]
+pub fn empty() -> MqBook {
+    MqBook([0; BOOK_BYTES])
+}
+
+#[inline(never)]
+pub fn open(book: MqBook, seat: u32, cell: u32, sync: u32, k: u32, long: u32, short: u32) -> MqBookAnswer {
+    match opened(cell, sync, k, long, short) {
+        Ok(settings) => changed(book, |b| b.open(seat, settings)),
+        Err(refusal) => MqBookAnswer { refusal, book },
+    }
+}
+
+/// `x`: timeslot, direction, burst type, factor, index, user, TFCI bits, TPC bits.
+#[inline(never)]
+pub fn book(book: MqBook, seat: u32, x: [u32; 8]) -> MqBookAnswer {
+    let [timeslot, direction, burst, factor, index, user, tfci, tpc] = x;
+    let request = Request {
+        timeslot,
+        direction: if direction == 1 { Direction::Down } else { Direction::Up },
+        burst,
+        // A direction that is neither is refused as a factor that is none.
+        factor: if direction > 1 { 0 } else { factor },
+        index,
+        user,
+        tfci,
+        tpc,
+    };
+    match request.refusal() {
+        0 => changed(book, |b| b.book(seat, request.kept())),
+        refusal => MqBookAnswer { refusal, book },
+    }
+}
+
+#[inline(never)]
+pub fn cancel(book: MqBook, seat: u32, timeslot: u32, factor: u32, index: u32) -> MqBookAnswer {
+    if timeslot > 14 {
+        return MqBookAnswer { refusal: 5, book };
+    }
+    if !matches!(factor, 1 | 2 | 4 | 8 | 16) || index < 1 || index > factor {
+        return MqBookAnswer { refusal: 6, book };
+    }
+    changed(book, |b| b.cancel(seat, timeslot, factor, index))
+}
+
+#[inline(never)]
+pub fn close(book: MqBook, seat: u32) -> MqBookAnswer {
+    changed(book, |b| b.close(seat))
+}
+
+#[inline(never)]
+pub fn list(mut book: MqBook, seat: u32, out: &mut [u8]) -> MqAnswer {
+    if out.len() < 320 {
+        return MqAnswer::refusing(11);
+    }
+    let Some(b) = Book::of(&mut book) else {
+        return MqAnswer::refusing(12);
+    };
+    let refusal = b.seat_refusal(seat);
+    if refusal != 0 {
+        return MqAnswer::refusing(refusal);
+    }
+    let bookings = b.seats[seat as usize].bookings();
+    for (record, x) in out.chunks_exact_mut(8).zip(bookings) {
+        record.copy_from_slice(&[x.timeslot, x.direction as u8, x.burst, x.factor, x.index, x.user, x.tfci, x.tpc]);
+    }
+    MqAnswer::giving(bookings.len() as u32)
 }

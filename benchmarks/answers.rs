@@ -1,0 +1,76 @@
+//! What the calls answer, on both sides: the structs of include/mqarbset.h.
+
+pub const BOOK_BYTES: usize = 5232;
+
+#[repr(C)]
+#[derive(Clone, Copy, Debug, PartialEq, Eq)]
+pub struct MqAnswer {
+    pub refusal: u32,
+    pub value: u32,
+}
+
+impl MqAnswer {
+    pub fn refusing(refusal: u32) -> MqAnswer {
+        MqAnswer { refusal, value: 0 }
+    }
+
+    pub fn giving(value: u32) -> MqAnswer {
+        MqAnswer { refusal: 0, value }
+    }
+}
+
+#[repr(C)]
+#[derive(Clone, Copy, Debug, Default, PartialEq, Eq)]
+pub struct MqParts {
+    pub refusal: u32,
+    pub start: [u32; 7],
+    pub length: [u32; 7],
+    pub bits: [u32; 2],
+}
+
+#[repr(C)]
+#[derive(Clone, Copy, Debug, Default, PartialEq, Eq)]
+pub struct MqPlace {
+    pub refusal: u32,
+    pub part: u32,
+    pub number: u32,
+}
+
+#[repr(C)]
+#[derive(Clone, Copy, Debug, Default, PartialEq, Eq)]
+pub struct MqBeacons {
+    pub refusal: u32,
+    pub count: u32,
+    pub first: u32,
+    pub second: u32,
+}
+
+#[repr(C)]
+#[derive(Clone, Copy, Debug, Default, PartialEq, Eq)]
+pub struct MqIndicator {
+    pub refusal: u32,
+    pub frame: u32,
+    pub q: u32,
+    pub first: u32,
+    pub second: u32,
+    pub length: u32,
+}
+
+#[repr(C)]
+#[derive(Clone, Copy, Debug, Default, PartialEq, Eq)]
+pub struct MqOwner {
+    pub refusal: u32,
+    pub reserved: u32,
+    pub q: u32,
+}
+
+#[repr(C)]
+#[derive(Clone, Copy, Debug, PartialEq, Eq)]
+pub struct MqBook(pub [u8; BOOK_BYTES]);
+
+#[repr(C)]
+#[derive(Clone, Copy, Debug, PartialEq, Eq)]
+pub struct MqBookAnswer {
+    pub refusal: u32,
+    pub book: MqBook,
+}

@@ -1,0 +1,113 @@
+/* A lesson over the C interface: a midamble, the parts of a timeslot, the class book, and a refusal with its words.
+ *   cc -std=c99 -Iinclude examples/lesson.c target/staticlib/libmqarbset.a -o lesson */
+#include <mqarbset.h>
+#include <stdio.h>
+
+/* A refusal as a line; what was asked stands before it. */
+static void refused(const char *what, uint32_t refusal)
+{
+    char words[MQ_REFUSAL_TEXT_BYTES];
+    printf("%s: refused with %u, %s\n", what, (unsigned)refusal, mq_refusal_string(refusal, words));
+}
+
+static void midamble(void)
+{
+    unsigned char chips[MQ_LONG_MIDAMBLE];
+    mq_answer answer = mq_midamble(0, 1, 8, 8, chips, sizeof chips);
+    int i;
+    if (answer.refusal != 0) {
+        refused("midamble", answer.refusal);
+        return;
+    }
+    printf("midamble of cell 0, type 1, user 8 of 8: %u chips, the first", (unsigned)answer.value);
+    for (i = 0; i < 8; i++)
+        printf(" %d", chips[i]);
+    printf("\n");
+    answer = mq_midamble(0, 1, 8, 9, chips, sizeof chips);
+    refused("user 9 of 8", answer.refusal);
+}
+
+static void timeslot(void)
+{
+    static const char *const names[MQ_PARTS] = {"data 1", "TFCI 1", "midamble", "TPC", "TFCI 2", "data 2", "guard"};
+    mq_parts_answer parts = mq_parts(1, MQ_UP, 8, 16, 2);
+    mq_place place = mq_at(1, MQ_UP, 8, 16, 2, 1500);
+    int i;
+    printf("uplink type 1, factor 8, TFCI 16, TPC 2:\n");
+    for (i = 0; i < MQ_PARTS; i++)
+        printf("  %-8s from %4u, %4u chips\n", names[i], (unsigned)parts.start[i], (unsigned)parts.length[i]);
+    printf("  data bits %u and %u\n", (unsigned)parts.bits[0], (unsigned)parts.bits[1]);
+    printf("  at chip 1500: %s, number %u\n", names[place.part - 1], (unsigned)place.number);
+    refused("direction 2", mq_parts(1, 2, 8, 16, 2).refusal);
+}
+
+static void paging(void)
+{
+    mq_beacons beacons = mq_beacon(2, 6);
+    mq_indicator_answer where = mq_indicator(1, 4, 2, 37);
+    mq_owner_answer owner = mq_owner(1, 4, 121);
+    unsigned char settings[MQ_INDICATORS] = {0};
+    unsigned char bits[MQ_PAGE_BITS_1];
+    unsigned char readings[MQ_INDICATORS];
+    mq_answer written, read;
+    printf("beacon timeslots of case 2, k 6: %u, which are %u and %u\n", (unsigned)beacons.count, (unsigned)beacons.first, (unsigned)beacons.second);
+    printf("indicator 37: frame %u, q %u, %u bits from %u and from %u\n", (unsigned)where.frame, (unsigned)where.q, (unsigned)where.length, (unsigned)where.first, (unsigned)where.second);
+    printf("bit 121: %s\n", owner.reserved ? "reserved" : "owned");
+    settings[7] = 1;
+    written = mq_page(1, 4, settings, sizeof settings, bits, sizeof bits);
+    bits[28] = 0;
+    read = mq_read_page(1, 4, bits, sizeof bits, readings, sizeof readings);
+    printf("page: %u bits written, %u indicators read; 7 with a bit turned over is %u, 8 is %u\n", (unsigned)written.value, (unsigned)read.value, readings[7], readings[8]);
+}
+
+static void list(const mq_book *book, uint32_t seat)
+{
+    mq_booking records[MQ_LIST_RECORDS];
+    mq_answer answer = mq_list(book, seat, records, MQ_LIST_RECORDS);
+    uint32_t i;
+    if (answer.refusal != 0) {
+        refused("list", answer.refusal);
+        return;
+    }
+    printf("seat %u holds %u:\n", (unsigned)seat, (unsigned)answer.value);
+    for (i = 0; i < answer.value; i++)
+        printf("  timeslot %d, %s, type %d, code (%d, %d), user %d, TFCI %d, TPC %d\n", records[i].timeslot, records[i].direction == MQ_DOWN ? "down" : "up",
+               records[i].burst, records[i].factor, records[i].index, records[i].user, records[i].tfci, records[i].tpc);
+}
+
+static void class_book(void)
+{
+    mq_book book = mq_empty_book();
+    mq_book kept;
+    uint32_t refusal;
+    refusal = mq_open(&book, 3, 0, 1, 0, 0, 0);
+    printf("open seat 3: %u\n", (unsigned)refusal);
+    refusal = mq_book_code(&book, 3, 2, MQ_DOWN, 1, 16, 3, 4, 0, 0);
+    printf("book (16, 3) for user 4 in timeslot 2: %u\n", (unsigned)refusal);
+    refusal = mq_book_code(&book, 3, 0, MQ_DOWN, 1, 16, 1, 1, 0, 0);
+    printf("book (16, 1) for user 1 in timeslot 0: %u\n", (unsigned)refusal);
+    list(&book, 3);
+    kept = book;
+    refused("book (1, 1) in timeslot 2", mq_book_code(&book, 3, 2, MQ_DOWN, 1, 1, 1, 5, 0, 0));
+    refused("book in direction 7", mq_book_code(&book, 3, 2, 7, 1, 16, 5, 5, 0, 0));
+    printf("the book after both: %s\n", memcmp(&book, &kept, sizeof book) == 0 ? "the same bytes" : "changed");
+    refusal = mq_cancel(&book, 3, 2, 16, 3);
+    printf("cancel (16, 3) in timeslot 2: %u\n", (unsigned)refusal);
+    list(&book, 3);
+    refusal = mq_close(&book, 3);
+    printf("close seat 3: %u\n", (unsigned)refusal);
+    list(&book, 3);
+    memset(&book, 7, sizeof book);
+    refused("a book that was never made", mq_close(&book, 3));
+    refused("no book at all", mq_open(NULL, 0, 0, 1, 0, 0, 0));
+    refused("a list into no memory", mq_list(&kept, 3, NULL, 0).refusal);
+}
+
+int main(void)
+{
+    midamble();
+    timeslot();
+    paging();
+    class_book();
+    return 0;
+}

@@ -4,13 +4,33 @@
 //! round of each is kept. The making of the book is timed by a round of no booking and taken off.
 
 use crate::dice::same;
-use crate::{library, table};
+use crate::table;
 use std::hint::black_box;
 use std::time::Instant;
 
 const ROUNDS: usize = 61;
 const TIMES: u32 = 400;
 const BOOKINGS: [u32; 4] = [0, 60, 120, 239];
+
+/// Books inside the library (crates/bench_book), without the way over C.
+mod inside {
+    mod c {
+        extern "C" {
+            pub fn bench_book(bookings: u32, times: u32) -> u32;
+            pub fn bench_mixed(seed: u32, calls: u32) -> u32;
+        }
+    }
+
+    pub fn book(bookings: u32, times: u32) -> u32 {
+        // SAFETY: plain numbers, and the call asks nothing of them.
+        unsafe { c::bench_book(bookings, times) }
+    }
+
+    pub fn mixed(seed: u32, calls: u32) -> u32 {
+        // SAFETY: plain numbers, and the call asks nothing of them.
+        unsafe { c::bench_mixed(seed, calls) }
+    }
+}
 
 /// The same work as crates/bench_book, over plain/book.rs.
 mod plain {
@@ -127,12 +147,12 @@ mod plain {
 pub fn compare() -> u32 {
     let mut compared = 0;
     for bookings in 0..=300 {
-        same(library::bench_book(bookings, 3), plain::book(bookings, 3), || format!("{bookings} bookings"));
+        same(inside::book(bookings, 3), plain::book(bookings, 3), || format!("{bookings} bookings"));
         compared += bookings + 3;
     }
     for seed in 0..200 {
         let calls = 5 * seed;
-        same(library::bench_mixed(seed, calls), plain::mixed(seed, calls), || format!("thrown requests, seed {seed}"));
+        same(inside::mixed(seed, calls), plain::mixed(seed, calls), || format!("thrown requests, seed {seed}"));
         compared += calls;
     }
     compared
@@ -147,7 +167,7 @@ fn timed(f: fn(u32, u32) -> u32, bookings: u32, times: u32) -> f64 {
 
 /// For each number of bookings: the nanoseconds of a booking more, library and plain Rust.
 pub fn measure() -> [[f64; 2]; 4] {
-    let sides = [library::bench_book, plain::book];
+    let sides = [inside::book, plain::book];
     // The best round of the making alone, and with the bookings more.
     let mut best = [[[f64::INFINITY; 2]; 2]; 4];
     for round in 0..ROUNDS {

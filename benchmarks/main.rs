@@ -6,10 +6,12 @@
 //!
 //! `benchmarks/run` builds and runs this; with the word `book` the growth alone. Standard library only.
 
+#[path = "../compare/answers.rs"]
 mod answers;
 mod book;
 mod dice;
 mod growth;
+#[path = "../compare/library.rs"]
 mod library;
 mod midambles;
 mod paging;

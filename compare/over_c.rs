@@ -7,6 +7,7 @@
 //! `./test` builds and runs it: `rustc --edition 2021 -O compare/over_c.rs -C link-arg=target/staticlib/libmqarbset.a`.
 #![allow(dead_code)]
 
+mod answers;
 #[path = "../second/beacons.rs"]
 mod beacons;
 #[path = "../second/book.rs"]
@@ -15,6 +16,7 @@ mod book;
 mod bookings;
 #[path = "../second/calls.rs"]
 mod calls;
+mod damage;
 #[path = "../second/dice.rs"]
 mod dice;
 #[path = "../second/digest.rs"]
@@ -41,10 +43,10 @@ mod scribbles;
 #[path = "../second/timeslots.rs"]
 mod timeslots;
 
+use answers::{MqBook, MqBookAnswer, BOOK_BYTES};
 use book::{Book, Record, Settings};
 use calls::Call;
 use dice::Dice;
-use library::MqBook;
 use refusals::Answer;
 use rows::Rows;
 use std::process::exit;
@@ -85,18 +87,14 @@ fn direction_number(direction: Direction) -> u32 {
     }
 }
 
+/// A booking as it goes over C, with its direction as a number, which may be any.
+fn request(record: &Record, direction: u32) -> [u32; 8] {
+    let Record { timeslot, burst_type, factor, index, user, tfci_bits, tpc_bits, .. } = *record;
+    [timeslot, direction, burst_type, factor, index, user, tfci_bits, tpc_bits]
+}
+
 fn bytes_of(record: &Record) -> [u8; 8] {
-    [
-        record.timeslot,
-        direction_number(record.direction),
-        record.burst_type,
-        record.factor,
-        record.index,
-        record.user,
-        record.tfci_bits,
-        record.tpc_bits,
-    ]
-    .map(|value| value as u8)
+    request(record, direction_number(record.direction)).map(|value| value as u8)
 }
 
 impl Bench<'_> {
@@ -131,7 +129,7 @@ impl Bench<'_> {
     }
 
     /// A call on the book: the library's answer beside the model's number. A refused call hands the same bytes back.
-    fn on_book(&mut self, before: MqBook, answer: library::MqBookAnswer, expected: u32) -> MqBook {
+    fn on_book(&mut self, before: MqBook, answer: MqBookAnswer, expected: u32) -> MqBook {
         self.expect("refusal", answer.refusal, expected);
         if expected != 0 && answer.book.0 != before.0 {
             self.differ("a refused call changed the book");
@@ -174,7 +172,7 @@ impl Bench<'_> {
                     self.neither(b, seat, &wanted);
                 }
                 let expected = number(&self.model.book(seat, wanted));
-                self.on_book(b, library::book(b, seat, &wanted, direction_number(direction)), expected)
+                self.on_book(b, library::book(b, seat, request(&wanted, direction_number(direction))), expected)
             }
             "cancel" => {
                 let [seat, timeslot, factor, index] = call.numbers();
@@ -200,7 +198,7 @@ impl Bench<'_> {
         let other = Record { factor: 0, direction: Direction::Up, ..*wanted };
         let expected = number(&self.model.booking_refusals(seat, &other));
         let direction = if self.dice.one_in(2) { u32::MAX } else { self.dice.between(2, 300) };
-        self.on_book(b, library::book(b, seat, wanted, direction), expected);
+        self.on_book(b, library::book(b, seat, request(wanted, direction)), expected);
     }
 
     /// The same call on a copy of the book that surely breaks its conditions.
@@ -210,7 +208,7 @@ impl Bench<'_> {
         let place = self.dice.place(40);
         let held = broken.count(seat);
         match self.dice.below(9) {
-            0 => broken.0 = [255; library::BOOK_BYTES],
+            0 => broken.0 = [255; BOOK_BYTES],
             1 => broken.set(seat, 0, 2 + self.dice.below(254) as u8),
             2 => broken.set(seat, 6, 41 + self.dice.below(215) as u8),
             3 => broken.set(seat, 7 + 8 * place + 1, 2 + self.dice.below(254) as u8),
@@ -253,7 +251,7 @@ impl Bench<'_> {
                 let [burst_type, factor, tfci_bits, tpc_bits] = call.numbers();
                 let question = Question { burst_type, direction: call.direction(), factor, tfci_bits, tpc_bits };
                 let wanted = timeslots::timeslot(&question);
-                let answer = library::parts(&question);
+                let answer = library::parts(burst_type, direction_number(question.direction), factor, tfci_bits, tpc_bits);
                 self.expect("refusal", answer.refusal, number(&wanted));
                 if let Ok(slot) = &wanted {
                     let starts: Vec<u32> = slot.parts.iter().map(|part| part.start as u32).collect();
@@ -268,7 +266,7 @@ impl Bench<'_> {
                 let [burst_type, factor, tfci_bits, tpc_bits, chip] = call.numbers();
                 let question = Question { burst_type, direction: call.direction(), factor, tfci_bits, tpc_bits };
                 let wanted = timeslots::at(&question, chip);
-                let answer = library::at(&question, chip);
+                let answer = library::at(burst_type, direction_number(question.direction), factor, tfci_bits, tpc_bits, chip);
                 self.expect("refusal", answer.refusal, number(&wanted));
                 if let Ok(label) = &wanted {
                     self.expect("part", answer.part, 1 + label.part as u32);
@@ -331,7 +329,7 @@ impl Bench<'_> {
         let (wanted, answer) = if call.name == "page" {
             (paging::write(burst, length, &input, &mut expected), library::page(burst, length, &input, &mut memory))
         } else {
-            (paging::read(burst, length, &input, &mut expected), library::read_page(burst, length, &input, &mut memory))
+            (paging::read(burst, length, &input, &mut expected), library::read(burst, length, &input, &mut memory))
         };
         self.expect("answer", (answer.refusal, answer.value), (number(&wanted), *wanted.as_ref().unwrap_or(&0) as u32));
         self.expect("lent memory", memory, expected);
@@ -374,8 +372,11 @@ impl Bench<'_> {
 /// The words of each refusal are document 01's.
 fn words() {
     for number in 1..=21 {
-        if library::refusal_text(number) != refusals::condition(number) {
-            eprintln!("over_c: the words of refusal {number} are {:?}", library::refusal_text(number));
+        let mut out = [0; 400];
+        let answer = library::refusal_text(number, &mut out);
+        let said = String::from_utf8_lossy(&out[..answer.value as usize]);
+        if said != refusals::condition(number) {
+            eprintln!("over_c: the words of refusal {number} are {said:?}");
             exit(1);
         }
     }

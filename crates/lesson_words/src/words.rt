@@ -4,7 +4,7 @@ ghost use Prim.Native.Nat.{_+_, _≤_};
 ghost use lib.ListN.{length, drop};
 ghost use Rattle.lesson_words.specs.Words.{isEnd, isBlank, isInk, isHash, until, wordIn, wordOf, sameText};
 
-// The place of the first LF from a place on, or the end.
+// The place of the first LF from a place on, or the end. No call of document 01: public for the crate bench only, which asks from a place within the block.
 pub fn line_end(bytes: &[u8], from: usize) -> usize
     requires { ⌜ from ≤ length (now bytes) ⌝ }
     ensures { λ r. ⌜ (r ≤ length (now (bytes .entry))) × (r ≡ from + until isEnd (drop from (now (bytes .entry)))) ⌝ }

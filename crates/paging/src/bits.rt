@@ -1,4 +1,5 @@
-// The bits of a burst in time order: what is written at each place, and what is read of them.
+// The bits of a burst in time order: what is written at each place, and what is read of them. Nothing here is a call of document 01: a `pub` function is public for
+// lib.rt only, whose calls have tested what it requires.
 ghost use mathlib.Core.Path.{_≡_};
 ghost use mathlib.Core.Bool.{false};
 ghost use mathlib.Core.List.{_++_};
@@ -10,7 +11,7 @@ ghost use Rattle.paging.specs.Inside.{Fits, Holds};
 // What is written at a reserved bit.
 const RESERVED: u8 = 0;
 
-// Whether place p in time order is one of the four reserved bits between the halves.
+// Whether place p in time order is one of the four reserved bits between the halves. Public for lib.rt only.
 pub fn is_reserved(half: u32, p: u32) -> bool
     requires { ⌜ half ≤ 136 ⌝ }
     ensures { λ r. ⌜ r ≡ reservedAt half p ⌝ }
@@ -18,7 +19,7 @@ pub fn is_reserved(half: u32, p: u32) -> bool
     (half <= p) & (p < half + 4)
 }
 
-// The place in its own half of the carrying bit at place p in time order.
+// The place in its own half of the carrying bit at place p in time order. Public for lib.rt only.
 pub fn in_half(half: u32, p: u32) -> u32
     requires { ⌜ (half ≤ 136) × (reservedAt half p ≡ false) ⌝ }
     ensures { λ r. ⌜ r ≡ inHalf half p ⌝ }
@@ -50,7 +51,7 @@ fn bit(length: u32, half: u32, settings: &[u8], p: u32) -> u8
     as_bit(settings[(in_half(half, p) / length) as usize])
 }
 
-// All bits of such a burst, in time order, into the first places of `out`.
+// All bits of such a burst, in time order, into the first places of `out`. Public for lib.rt only.
 pub fn fill(length: u32, half: u32, settings: &[u8], out: &mut [u8])
     requires { ⌜ Fits length half × Holds (now settings) (perFrame length half) × Holds (now out) (bitsIn half) ⌝ }
     ensures { λ _. ⌜ now (out .exit) ≡ burstOf length half (now (settings .entry)) ++ drop (bitsIn half) (now (out .entry)) ⌝ }
@@ -100,7 +101,7 @@ fn read_one(length: u32, half: u32, bits: &[u8], q: u32) -> u8
     reading(first + second, 2 * length)
 }
 
-// The readings of all indicators, into the first places of `out`.
+// The readings of all indicators, into the first places of `out`. Public for lib.rt only.
 pub fn scan(length: u32, half: u32, bits: &[u8], out: &mut [u8])
     requires { ⌜ Fits length half × Holds (now bits) (bitsIn half) × Holds (now out) (perFrame length half) ⌝ }
     ensures { λ _. ⌜ now (out .exit) ≡ readingsOf length half (now (bits .entry)) ++ drop (perFrame length half) (now (out .entry)) ⌝ }

@@ -307,7 +307,7 @@ pub fn place_named(row: [Booking; 40], n: usize, timeslot: u32, factor: u32, ind
     i
 }
 
-// The seat without the booking at a place that is in use. Inside the book only: the calls have found it there before.
+// The seat without the booking at a place that is in use. No call of document 01: public for the crate classbook only, whose cancel has found it there before.
 pub fn without_at(s: Seat, p: usize) -> Seat
     requires { ⌜ p < min (s .count) 40 ⌝ }
     ensures { λ r. ⌜ r ≡ takenOut s p ⌝ }

@@ -1,4 +1,4 @@
-//! What the calls answer, on both sides: the structs of include/mqarbset.h.
+//! What the calls answer: the structs of include/mqarbset.h. Used by over_c.rs and by benchmarks/main.rs.
 
 pub const BOOK_BYTES: usize = 5232;
 

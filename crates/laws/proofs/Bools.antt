@@ -20,6 +20,9 @@ pub or-false : (a b : Bool) → (a || b) ≡ false → (a ≡ false) × (b ≡ f
 or-false false b e = (refl, e)
 or-false true b e = true-false e
 
+pub or-same : {a b c d : Bool} → a ≡ c → b ≡ d → (a || b) ≡ (c || d)
+or-same p q = rw (p, q)
+
 -- the same of a test that computed
 pub T-and-left : (a b : Bool) → T (a && b) → T a
 T-and-left true b t = tt

@@ -1,13 +1,19 @@
--- Tests, sums and places over plain lists: used by the definitions of the class book.
+-- Tests, sums and places over plain lists: used by the definitions of beacon timeslots and of the class book.
 -- Assumes nothing.
-use mathlib.Core.Bool.{Bool, true, _&&_, cond}
+use mathlib.Core.Bool.{Bool, true, false, _&&_, _||_, cond}
 use mathlib.Core.List.{List, [], _∷_, _++_}
 use Prim.Native.Nat.{ℕ, _+_}
+use lib.Dec.{eqb}
 use lib.ListN.{take, drop}
 
 -- 1 where the test holds, else 0
 abbrev pub one : Bool → ℕ
 one b = cond b 1 0
+
+-- n is one of these numbers
+unfoldable pub member : ℕ → List ℕ → Bool
+member n [] = false
+member n (x ∷ l) = eqb n x || member n l
 
 module _ {A : Type 0} where
   -- the test holds of each

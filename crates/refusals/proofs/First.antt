@@ -68,6 +68,28 @@ append-rows [] u k l = first-row-by-row u l
 append-rows ((n, true) ∷ t) u k l = rows-stay n u (not-zero n t k)
 append-rows ((n, false) ∷ t) u k l = append-rows t u (T-and-right (ltb 0 n) (numbered t) k) l
 
+-- A call's code reads its table row by row: n was given so far, and with the rows that are left it comes to the table's first refusal.
+pub record Reading (n : ℕ) (left : Refusals) (first : ℕ) : Type 0 where
+  pub comes : rowByRow n left ≡ first
+
+-- it begins at the table, or behind a first part of it that another function has read
+pub reads : (t : Refusals) → T (numbered t) → Reading 0 t (firstOf t)
+reads t k = record { comes = first-row-by-row t k }
+
+pub reads-behind : {n : ℕ} (t u : Refusals) → T (numbered t) → T (numbered u) → n ≡ firstOf t → Reading n u (firstOf (t ++ u))
+reads-behind t u k l e = record { comes = ap (λ (m : ℕ). rowByRow m u) e ∙ append-rows t u k l }
+
+-- a row: what its test gave, and what `or_refused` made of it
+pub reads-row : {n m r first : ℕ} {b test : Bool} {left : Refusals} → Reading n ((m, b) ∷ left) first → test ≡ b → r ≡ orRefused n m test → Reading r left first
+unfolding rowByRow
+reads-row {n} {m} {left = left} reading e g =
+    record { comes = ap (λ (k : ℕ). rowByRow k left) (g ∙ ap (λ (t : Bool). orRefused n m t) e) ∙ reading .comes }
+
+-- and ends behind the last row
+pub reads-all : {n first : ℕ} → Reading n [] first → n ≡ first
+unfolding rowByRow
+reads-all reading = reading .comes
+
 -- no refusal of the first part was given: the rest decides
 pub append-passes : (t u : Refusals) → T (numbered t) → firstOf t ≡ 0 → firstOf (t ++ u) ≡ firstOf u
 unfolding firstOf

@@ -1,9 +1,9 @@
 -- Document 01, "Refusal numbers": what every call answers, and which refusal it gives. Cited by the promises of all calls.
 -- Assumes nothing.
-use mathlib.Core.Bool.{Bool, cond, _||_}
+use mathlib.Core.Bool.{Bool, cond}
 use mathlib.Core.List.{List, [], _∷_}
 use Prim.Native.Nat.{ℕ}
-use lib.Dec.{eqb, ltb}
+use lib.Dec.{eqb}
 
 infix 10 _leaving_
 -- what a call answers: a refusal by its number only, or what it was asked for
@@ -31,7 +31,3 @@ answer n value = cond (eqb n 0) (answered value) (refused n)
 -- what is lent to such a call, afterwards: "leaves all lent memory and the book unchanged", or as the call makes it
 unfoldable pub after : {M : Type 0} → ℕ → M → M → M
 after n before made = cond (eqb n 0) made before
-
--- 2: "burst type not 1, 2 or 3"
-unfoldable pub badType : ℕ → Bool
-badType t = ltb t 1 || ltb 3 t

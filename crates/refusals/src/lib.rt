@@ -1,6 +1,5 @@
 // Document 01, "Refusal numbers": what the calls of several chapters share. The table of numbers is in specs/Refusals.antt.
 ghost use mathlib.Core.Path.{_≡_};
-ghost use Rattle.refusals.specs.Refusals.{badType};
 ghost use Rattle.refusals.specs.Inside.{orRefused};
 
 // The refusal given so far, or the next one where its condition holds, or 0. A call reads its table with one such line a row.
@@ -14,11 +13,4 @@ pub fn or_refused(given: u32, number: u32, holds: bool) -> u32
         return number;
     }
     0
-}
-
-// Refusal 2: the burst type is not 1, 2 or 3.
-pub fn bad_type(burst: u32) -> bool
-    ensures { λ r. ⌜ r ≡ badType burst ⌝ }
-{
-    (burst < 1) | (burst > 3)
 }

@@ -1,0 +1,80 @@
+-- A text is copied from the front, one byte a turn, and what `put` then answers and leaves. Cited by the proofs of `copy` and `put`.
+-- Assumes nothing.
+use mathlib.Core.Path.{_≡_, refl, sym, ap, _∙_}
+use mathlib.Core.List.{List, [], _∷_, _++_}
+use Prim.Native.Nat.{ℕ, suc, _+_, _≤_, _<_}
+use native.Mathlib.Numerals.{add-one}
+use native.Mathlib.Omega.{arith}
+use lib.ListN.{length, take, drop, set, getD}
+use lib.Seq.{drop-cons, getD-drop, set-at, append-snoc, take-suc, take-all, length-take-le}
+use lib.Dec.{ltb}
+use borrow.Author.Tests.{lt-ltb, le-ltb}
+use Rattle.refusals.specs.Refusals.{Answer, refused, answered, _leaving_, firstOf, answer}
+use Rattle.refusals.proofs.First.{first-holds, first-passes, answer-refused, answer-answered, after-refused, after-answered}
+use Rattle.refusal_words.specs.Words.{wordsOf, putting, wordsOutcome}
+use Rattle.refusal_words.specs.Inside.{texts, chained}
+use Rattle.refusal_words.proofs.Chain.{none-left, size-here, text-here, words-text}
+
+-- one more byte
+pub copy-turn : (text was out : List ℕ) (i : ℕ) → i < length text → i < length was → out ≡ take i text ++ drop i was
+    → set out i (getD text i 0) ≡ take (i + 1) text ++ drop (i + 1) was
+copy-turn text was out i h room e =
+    ap (λ (l : List ℕ). set l i (getD text i 0)) e
+    ∙ ap (λ (l : List ℕ). set (take i text ++ l) i (getD text i 0)) (drop-cons was i 0 room)
+    ∙ set-at (take i text) (getD was i 0) (drop (suc i) was) (getD text i 0) i (length-take-le i text (omega arith))
+    ∙ sym (append-snoc (take i text) (getD text i 0) (drop (suc i) was))
+    ∙ ap (λ (l : List ℕ). l ++ drop (suc i) was) (sym (take-suc text i 0 h))
+    ∙ ap (λ (k : ℕ). take k text ++ drop k was) (sym (add-one i))
+
+-- all of it
+pub copied : (text was out : List ℕ) (i : ℕ) → i ≡ length text → out ≡ take i text ++ drop i was → out ≡ text ++ drop (length text) was
+copied text was out i n e =
+    e ∙ ap (λ (k : ℕ). take k text ++ drop k was) n
+    ∙ ap (λ (l : List ℕ). l ++ drop (length text) was) (take-all (length text) text (omega arith))
+
+module _ (text was : List ℕ) where
+  pub put-short : length was < length text → (refused 11 leaving was) ≡ putting text was
+  unfolding putting
+  put-short h =
+      let n = firstOf ((11, ltb (length was) (length text)) ∷ []) in
+      let e : n ≡ 11 = first-holds 11 (ltb (length was) (length text)) [] (lt-ltb (length was) (length text) h) in
+      ap (λ (k : ℕ). refused k leaving was) (sym e)
+      ∙ ap (λ (a : Answer ℕ). a leaving was) (sym (answer-refused n (length text) (λ z. omega arith)))
+      ∙ ap (λ (m : List ℕ). answer n (length text) leaving m) (sym (after-refused n was (text ++ drop (length text) was) (λ z. omega arith)))
+
+  pub put-written : (out : List ℕ) → length text ≤ length was → out ≡ text ++ drop (length text) was → (answered (length text) leaving out) ≡ putting text was
+  unfolding putting firstOf
+  put-written out h e =
+      let n = firstOf ((11, ltb (length was) (length text)) ∷ []) in
+      let z : n ≡ 0 = first-passes 11 (ltb (length was) (length text)) [] (le-ltb (length was) (length text) h) in
+      ap (λ (m : List ℕ). answered (length text) leaving m) e
+      ∙ ap (λ (a : Answer ℕ). a leaving (text ++ drop (length text) was)) (sym (answer-answered n (length text) z))
+      ∙ ap (λ (m : List ℕ). answer n (length text) leaving m) (sym (after-answered n was (text ++ drop (length text) was) z))
+
+-- ---- `put`, by what stands at the number's place
+
+module _ (chain : List ℕ) (at number : ℕ) (was : List ℕ) (e : drop at chain ≡ chained (drop number texts)) where
+  pub words-none : length chain ≤ at → (answered 0 leaving was) ≡ wordsOutcome number was
+  unfolding wordsOutcome
+  words-none h =
+      let z : drop number texts ≡ [] = none-left chain at number texts e h in
+      let i : number + 0 ≡ number = omega arith in
+      let w : wordsOf number ≡ [] = words-text number ∙ sym (getD-drop number texts 0 [] ∙ ap (λ (n : ℕ). getD texts n []) i) ∙ ap (λ (l : List (List ℕ)). getD l 0 []) z in
+      put-written [] was was (omega arith) refl ∙ ap (λ (t : List ℕ). putting t was) (sym w)
+
+  module _ (n : ℕ) (h : at < length chain) (q : n ≡ getD chain at 0) where
+    text : n ≡ length (wordsOf number)
+    text = q ∙ size-here chain at number texts e h ∙ ap length (sym (words-text number))
+
+    pub words-short : length was < n → (refused 11 leaving was) ≡ wordsOutcome number was
+    unfolding wordsOutcome
+    words-short s = put-short (wordsOf number) was (omega (arith, text))
+
+    pub words-written : (part out : List ℕ) → part ≡ take n (drop (at + 1) chain) → n ≤ length was → out ≡ part ++ drop (length part) was
+        → (answered n leaving out) ≡ wordsOutcome number was
+    unfolding wordsOutcome
+    words-written part out p s o =
+        let w : part ≡ wordsOf number =
+        p ∙ ap (λ (k : ℕ). take k (drop (at + 1) chain)) q ∙ text-here chain at number texts e h ∙ sym (words-text number) in
+        ap (λ (k : ℕ). answered k leaving out) text
+        ∙ put-written (wordsOf number) was out (omega (arith, text)) (o ∙ ap (λ (l : List ℕ). l ++ drop (length l) was) w)

@@ -1,5 +1,3 @@
-pub mod Codes
-pub mod Elements
-pub mod Rows
+pub mod Passed
 pub mod Answers
 pub mod Unique

@@ -1,3 +1,2 @@
 pub mod TrainingSequences
 pub mod Calls
-pub mod Inside

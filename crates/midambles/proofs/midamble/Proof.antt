@@ -2,39 +2,27 @@
 -- Assumes nothing.
 use native.Mathlib.Omega.{arith}
 use denote.Ref.{now}
-use Rattle.midambles.proofs.Codes.{Passed, shifts, shift-low}
+use Rattle.codes.proofs.Numbers.{shift-low}
+use Rattle.midambles.proofs.Passed.{Passed}
 use Rattle.midambles.proofs.Answers.{midamble-refused, midamble-passed, midamble-room, midamble-written}
 use borrow.Author.Needs.{needs}
 use Rattle.midambles.proofs.midamble.Statement.{statement}
 use Rattle.midambles.proofs.midamble.Tie as tie
 
 -- past the test the user is one of the code's
-fits : (c : tie.Else1) → Passed (c .before .before .before .before .before .args .cell) (c .before .before .before .before .before .args .burst) (c .before .before .before .before .before .args .user)
+fits : (c : tie.Else1) → Passed (c .before .before .before .before .before .args .cell) (c .before .before .before .before .before .args .user)
 fits c = midamble-passed _ _ _ _ _ _ (now (c .before .before .before .before .before .args .out)) _ (c .before .before .before .code-of .ensures) (c .before .before .user-refusal .ensures) (c .before .or-refused .ensures) (c .if1 .left)
-
-code-of-requires : tie.Need-code-of-requires
-code-of-requires c κs = search needs
-
-user-refusal-requires : tie.Need-user-refusal-requires
-user-refusal-requires c κs = search needs
 
 cast-or-refused : tie.Need-cast-or-refused
 cast-or-refused c = search needs
 
-or-refused-requires : tie.Need-or-refused-requires
-or-refused-requires c κs = search needs
-
 returns : tie.Need-returns
 returns c = midamble-refused _ _ _ _ _ _ (now (c .before .before .before .before .before .args .out)) _ (c .before .before .before .code-of .ensures) (c .before .before .user-refusal .ensures) (c .before .or-refused .ensures) (c .if1 .taken)
-
-shift-requires : tie.Need-shift-requires
-shift-requires c κs = shifts _ _ _ _ (c .before .before .before .code-of .ensures) (fits c)
 
 fill-chips-requires : tie.Need-fill-chips-requires
 fill-chips-requires c κs =
     let d = c .before .before in
-    let f = d .before .before .before .code-of .ensures in
-    omega (arith, fits d .cell-high, c .before .shift .ensures, shift-low _ _ _ f (fits d .user-low), midamble-room _ _ _ _ _ _ (now (d .before .before .before .before .before .args .out)) _ (d .before .before .before .code-of .ensures) (d .before .before .user-refusal .ensures) (d .before .or-refused .ensures) (d .if1 .left))
+    omega (arith, fits d .cell-high, c .before .shift .ensures, shift-low (d .before .before .before .before .before .args .burst) _ (fits d .user-low), midamble-room _ _ _ _ _ _ (now (d .before .before .before .before .before .args .out)) _ (d .before .before .before .code-of .ensures) (d .before .before .user-refusal .ensures) (d .before .or-refused .ensures) (d .if1 .left))
 
 same-length : tie.Need-same-length
 same-length c = search needs
@@ -49,12 +37,12 @@ pub midamble-spec : {M : Type 1} → statement M
 midamble-spec =
     tie.close
     (tie.spec
-    code-of-requires
-    user-refusal-requires
+    (λ c κs. tt)
+    (λ c κs. tt)
     cast-or-refused
-    or-refused-requires
+    (λ c κs. tt)
     returns
-    shift-requires
+    (λ c κs. tt)
     fill-chips-requires
     same-length
     returns-2)

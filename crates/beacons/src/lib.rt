@@ -1,20 +1,14 @@
 // Document 01, "Beacon timeslots": which timeslots of a frame are beacon timeslots. The booking rules (a) to (f) belong to the class book.
 ghost use mathlib.Core.Path.{_≡_};
-ghost use Rattle.beacons.specs.Beacons.{badBeacon, isBeacon};
-ghost use Rattle.beacons.specs.Calls.{said, beaconAnswer};
+ghost use Rattle.conditions.specs.Conditions.{badBeacon};
+ghost use Rattle.beacons.specs.Beacons.{isBeacon};
+ghost use Rattle.beacons.specs.Calls.{saidBeacon, beaconAnswer};
 
 // The beacon timeslots of a frame: one in case 1, two in case 2.
 pub enum BeaconAnswer {
     Refused(u32),
     One(u32),
     Two(u32, u32),
-}
-
-// Refusal 9: the synchronisation case is not 1 or 2, or k is above 14 (case 1) or above 6 (case 2).
-pub fn bad_beacon(case: u32, k: u32) -> bool
-    ensures { λ r. ⌜ r ≡ badBeacon case k ⌝ }
-{
-    !((case == 1) | (case == 2)) | ((case == 1) & (k > 14)) | ((case == 2) & (k > 6))
 }
 
 // Whether t is a beacon timeslot of case and k. The sum is taken in 64 bits, since it is asked of any numbers.
@@ -26,9 +20,9 @@ pub fn is_beacon(case: u32, k: u32, t: u32) -> bool
 
 // The beacon timeslots of a synchronisation case and its k. Refusal: 9.
 pub fn beacon(case: u32, k: u32) -> BeaconAnswer
-    ensures { λ r. ⌜ said r ≡ beaconAnswer case k ⌝ }
+    ensures { λ r. ⌜ saidBeacon r ≡ beaconAnswer case k ⌝ }
 {
-    if bad_beacon(case, k) {
+    if conditions::bad_beacon(case, k) {
         return BeaconAnswer::Refused(9);
     }
     if case == 1 {

@@ -1,5 +1,5 @@
 -- What a request that is not refused is known by: the numbers it may hold, and what the table's rows have in common.
--- Cited by proofs/Cover.antt, proofs/Agree.antt and the proofs of `part_lengths`, `parts` and `at`. Assumes nothing.
+-- Cited by proofs/Sizes.antt. Assumes nothing.
 use mathlib.Core.Path.{_≡_, refl}
 use mathlib.Core.Bool.{Bool, true, _&&_}
 use mathlib.Core.List.{List, [], _∷_}
@@ -11,13 +11,13 @@ use lib.ListN.{getD}
 use borrow.Author.Tests.{ltb-false, leb-true, eqb-true, not-false}
 use Rattle.laws.proofs.Bools.{and-true, or-false}
 use Rattle.laws.proofs.Cases.{one-of}
-use Rattle.refusals.specs.Refusals.{firstOf, badType}
+use Rattle.conditions.specs.Conditions.{badType, badFactor, badControl}
+use Rattle.tables.specs.Tables.{partsRefusals}
+use Rattle.refusals.specs.Refusals.{firstOf}
 use Rattle.refusals.proofs.First.{first-none}
-use Rattle.timeslots.specs.declared.Direction.{Direction}
-use Rattle.timeslots.specs.declared.Direction.the-variants.{Up, Down}
-use Rattle.timeslots.specs.Conditions.{badFactor, badControl}
+use Rattle.conditions.specs.declared.Direction.{Direction}
+use Rattle.conditions.specs.declared.Direction.the-variants.{Up, Down}
 use Rattle.timeslots.specs.Timeslots.{fields, fieldLength, controlChips}
-use Rattle.timeslots.specs.Calls.{partsRefusals}
 
 pub record Accepted (burst factor tfci tpc : ℕ) : Type 0 where
   pub burst-low : 1 ≤ burst

@@ -6,8 +6,8 @@ use Rattle.timeslots.specs.declared.Span.{Span}
 use Rattle.timeslots.specs.declared.Layout.{Layout}
 use Rattle.timeslots.specs.declared.PartsAnswer.{PartsAnswer}
 use Rattle.timeslots.specs.declared.PartsAnswer.the-variants as parts-answer
-use Rattle.timeslots.specs.declared.ChipAnswer.{ChipAnswer}
-use Rattle.timeslots.specs.declared.ChipAnswer.the-variants as chip-answer
+use Rattle.timeslots.specs.declared.AtAnswer.{AtAnswer}
+use Rattle.timeslots.specs.declared.AtAnswer.the-variants as chip-answer
 use Rattle.timeslots.specs.declared.Symbol.the-variants.{Data1, Data2, Tfci1, Tfci2, Tpc}
 use Rattle.timeslots.specs.Timeslots.{Part, DATA1, TFCI1, MIDAMBLE, TPC, TFCI2, DATA2, GUARD, SevenParts}
 use Rattle.timeslots.specs.Calls.{saidLayout, saidParts, saidAt}
@@ -16,10 +16,6 @@ use native.Mathlib.Omega.{arith}
 use lib.ListN.{getD}
 use Rattle.timeslots.proofs.parts.Reads as parts
 use Rattle.timeslots.proofs.at.Reads as at
-use Rattle.timeslots.proofs.conditions.bad_factor.Reads as bad-factor
-use Rattle.timeslots.proofs.conditions.bad_down_factor.Reads as bad-down-factor
-use Rattle.timeslots.proofs.conditions.bad_down_type.Reads as bad-down-type
-use Rattle.timeslots.proofs.conditions.bad_control.Reads as bad-control
 
 -- the seven parts of which this is said
 spanIn : SevenParts → ℕ → Span
@@ -54,7 +50,7 @@ said-parts-one (parts-answer.Parts l) (parts-answer.Refused n) e = let z : _≡_
 said-parts-one (parts-answer.Parts l) (parts-answer.Parts m) e = let t : saidLayout l ≡ saidLayout m = cc in ap parts-answer.Parts (said-layout-one l m t)
 
 -- the chip's answer of which this is said
-heard : Answer (Part × ℕ) → ChipAnswer
+heard : Answer (Part × ℕ) → AtAnswer
 heard (refused n) = chip-answer.Refused n
 heard (answered (DATA1, n)) = chip-answer.Symbol (Data1 n)
 heard (answered (TFCI1, n)) = chip-answer.Symbol (Tfci1 n)
@@ -64,7 +60,7 @@ heard (answered (TFCI2, n)) = chip-answer.Symbol (Tfci2 n)
 heard (answered (DATA2, n)) = chip-answer.Symbol (Data2 n)
 heard (answered (GUARD, n)) = chip-answer.Guard n
 
-heard-said : (r : ChipAnswer) → heard (saidAt r) ≡ r
+heard-said : (r : AtAnswer) → heard (saidAt r) ≡ r
 unfolding heard saidAt
 heard-said (chip-answer.Refused n) = refl
 heard-said (chip-answer.Midamble n) = refl
@@ -75,7 +71,7 @@ heard-said (chip-answer.Symbol (Tfci1 n)) = refl
 heard-said (chip-answer.Symbol (Tfci2 n)) = refl
 heard-said (chip-answer.Symbol (Tpc n)) = refl
 
-said-at-one : (r r' : ChipAnswer) → saidAt r ≡ saidAt r' → r ≡ r'
+said-at-one : (r r' : AtAnswer) → saidAt r ≡ saidAt r' → r ≡ r'
 said-at-one r r' e = sym (heard-said r) ∙ ap heard e ∙ heard-said r'
 
 pub parts-asks-nothing : (κs : _) (a : _) → parts.Pre κs a
@@ -89,27 +85,3 @@ at-asks-nothing κs a = tt
 
 pub at-unique : (κs : _) (a : _) (r r' : _) (s s' : _) → at.Post κs a r s → at.Post κs a r' s' → r ≡ r'
 at-unique κs a r r' s s' p q = said-at-one r r' (p ∙ sym q)
-
-pub bad-factor-asks-nothing : (κs : _) (a : _) → bad-factor.Pre κs a
-bad-factor-asks-nothing κs a = tt
-
-pub bad-factor-unique : (κs : _) (a : _) (r r' : _) (s s' : _) → bad-factor.Post κs a r s → bad-factor.Post κs a r' s' → r ≡ r'
-bad-factor-unique κs a r r' s s' p q = p ∙ sym q
-
-pub bad-down-factor-asks-nothing : (κs : _) (a : _) → bad-down-factor.Pre κs a
-bad-down-factor-asks-nothing κs a = tt
-
-pub bad-down-factor-unique : (κs : _) (a : _) (r r' : _) (s s' : _) → bad-down-factor.Post κs a r s → bad-down-factor.Post κs a r' s' → r ≡ r'
-bad-down-factor-unique κs a r r' s s' p q = p ∙ sym q
-
-pub bad-down-type-asks-nothing : (κs : _) (a : _) → bad-down-type.Pre κs a
-bad-down-type-asks-nothing κs a = tt
-
-pub bad-down-type-unique : (κs : _) (a : _) (r r' : _) (s s' : _) → bad-down-type.Post κs a r s → bad-down-type.Post κs a r' s' → r ≡ r'
-bad-down-type-unique κs a r r' s s' p q = p ∙ sym q
-
-pub bad-control-asks-nothing : (κs : _) (a : _) → bad-control.Pre κs a
-bad-control-asks-nothing κs a = tt
-
-pub bad-control-unique : (κs : _) (a : _) (r r' : _) (s s' : _) → bad-control.Post κs a r s → bad-control.Post κs a r' s' → r ≡ r'
-bad-control-unique κs a r r' s s' p q = p ∙ sym q

@@ -1,30 +1,23 @@
 -- Document 01, "Parts of a timeslot": of each call the refusals in their order, what its answer says, and the answer that it must give.
 -- Cited by the promises of `parts` and `at`. Assumes nothing.
-use mathlib.Core.Bool.{_||_}
 use mathlib.Core.List.{[], _∷_, _++_}
 use Prim.Native.Nat.{ℕ}
-use Rattle.refusals.specs.Refusals.{Answer, refused, answered, Refusals, firstOf, answer, badType}
-use Rattle.timeslots.specs.declared.Direction.{Direction}
+use Rattle.conditions.specs.Conditions.{badSlotChip}
+use Rattle.tables.specs.Tables.{partsRefusals}
+use Rattle.refusals.specs.Refusals.{Answer, refused, answered, Refusals, firstOf, answer}
+use Rattle.conditions.specs.declared.Direction.{Direction}
 use Rattle.timeslots.specs.declared.Span.{Span}
 use Rattle.timeslots.specs.declared.Layout.{Layout}
 use Rattle.timeslots.specs.declared.PartsAnswer.{PartsAnswer}
 use Rattle.timeslots.specs.declared.PartsAnswer.the-variants as parts
-use Rattle.timeslots.specs.declared.ChipAnswer.{ChipAnswer}
-use Rattle.timeslots.specs.declared.ChipAnswer.the-variants as chip
+use Rattle.timeslots.specs.declared.AtAnswer.{AtAnswer}
+use Rattle.timeslots.specs.declared.AtAnswer.the-variants as chip
 use Rattle.timeslots.specs.declared.Symbol.the-variants.{Data1, Data2, Tfci1, Tfci2, Tpc}
-use Rattle.timeslots.specs.Conditions.{badFactor, badDownFactor, badDownType, badControl, badChip}
-use Rattle.timeslots.specs.Timeslots.{Part, DATA1, TFCI1, MIDAMBLE, TPC, TFCI2, DATA2, GUARD, SevenParts, partLengths, units, sevenParts, lies}
+use Rattle.timeslots.specs.Timeslots.{Part, DATA1, TFCI1, MIDAMBLE, TPC, TFCI2, DATA2, GUARD, SevenParts, sevenParts, liesAt}
 
--- "parts of a timeslot, and what lies at a chip, 2, 6 (factor and direction only), 7, 8, 10"
-unfoldable pub partsRefusals : ℕ → Direction → ℕ → ℕ → ℕ → Refusals
-partsRefusals burst direction factor tfci tpc =
-    (2, badType burst) ∷
-    (6, badFactor factor || badDownFactor direction factor) ∷
-    (7, badDownType direction burst) ∷
-    (8, badControl direction tfci tpc) ∷ []
-
+-- "what lies at a chip, 2, 6 (factor and direction only), 7, 8, 10"
 unfoldable pub atRefusals : ℕ → Direction → ℕ → ℕ → ℕ → ℕ → Refusals
-atRefusals burst direction factor tfci tpc chip = partsRefusals burst direction factor tfci tpc ++ ((10, badChip chip) ∷ [])
+atRefusals burst direction factor tfci tpc chip = partsRefusals burst direction factor tfci tpc ++ ((10, badSlotChip chip) ∷ [])
 
 -- what the seven parts say: the spans in time order, and the bits of both data parts
 abbrev pub saidSpan : Span → ℕ × ℕ
@@ -37,16 +30,18 @@ saidLayout l = (
   (l .bits1, l .bits2),
 )
 
+-- what the answer about the parts says: a refusal by its number, or the seven parts
 unfoldable pub saidParts : PartsAnswer → Answer SevenParts
 saidParts (parts.Refused n) = refused n
 saidParts (parts.Parts l) = answered (saidLayout l)
 
+-- the answer that `parts` must give
 unfoldable pub partsAnswer : ℕ → Direction → ℕ → ℕ → ℕ → Answer SevenParts
 partsAnswer burst direction factor tfci tpc =
-    answer (firstOf (partsRefusals burst direction factor tfci tpc)) (sevenParts (partLengths burst direction factor tfci tpc) factor)
+    answer (firstOf (partsRefusals burst direction factor tfci tpc)) (sevenParts burst direction factor tfci tpc)
 
 -- what a chip's answer says: "midamble or guard with the offset in it, or a symbol; data and control carry which part it is and the symbol number"
-unfoldable pub saidAt : ChipAnswer → Answer (Part × ℕ)
+unfoldable pub saidAt : AtAnswer → Answer (Part × ℕ)
 saidAt (chip.Refused n) = refused n
 saidAt (chip.Midamble n) = answered (MIDAMBLE, n)
 saidAt (chip.Guard n) = answered (GUARD, n)
@@ -56,7 +51,7 @@ saidAt (chip.Symbol (Tfci1 n)) = answered (TFCI1, n)
 saidAt (chip.Symbol (Tfci2 n)) = answered (TFCI2, n)
 saidAt (chip.Symbol (Tpc n)) = answered (TPC, n)
 
+-- the answer that `at` must give
 unfoldable pub atAnswer : ℕ → Direction → ℕ → ℕ → ℕ → ℕ → Answer (Part × ℕ)
 atAnswer burst direction factor tfci tpc chip =
-    answer (firstOf (atRefusals burst direction factor tfci tpc chip))
-    (lies (partLengths burst direction factor tfci tpc) (units direction factor) chip)
+    answer (firstOf (atRefusals burst direction factor tfci tpc chip)) (liesAt burst direction factor tfci tpc chip)

@@ -1,3 +1,3 @@
 pub mod Timeslots
-pub mod Conditions
 pub mod Calls
+pub mod Inside

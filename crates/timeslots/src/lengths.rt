@@ -1,10 +1,11 @@
 // How long the parts are: the table of fields, and what control takes from them.
-use crate::Direction;
+use conditions::Direction;
 ghost use mathlib.Core.Path.{_≡_};
 ghost use Prim.Native.Nat.{_≤_, _<_};
 ghost use Rattle.refusals.specs.Refusals.{firstOf};
-ghost use Rattle.timeslots.specs.Timeslots.{fieldLength, controlChips, partLengths};
-ghost use Rattle.timeslots.specs.Calls.{partsRefusals};
+ghost use Rattle.timeslots.specs.Timeslots.{fieldLength, controlChips};
+ghost use Rattle.timeslots.specs.Inside.{lengthsOf};
+ghost use Rattle.tables.specs.Tables.{partsRefusals};
 
 // Burst type by field, in chips: data 1, midamble, data 2, guard.
 const FIELDS: [[u32; 4]; 3] = [
@@ -32,10 +33,21 @@ pub fn control_chips(direction: Direction, factor: u32) -> u32
     }
 }
 
-// The lengths of the seven parts in time order, of a request that is not refused.
-pub fn part_lengths(burst: u32, direction: Direction, factor: u32, tfci: u32, tpc: u32) -> [u32; 7]
+// The lengths of the seven parts, in time order.
+pub struct Lengths {
+    pub data1: u32,
+    pub tfci1: u32,
+    pub midamble: u32,
+    pub tpc: u32,
+    pub tfci2: u32,
+    pub data2: u32,
+    pub guard: u32,
+}
+
+// How long the parts are, of a request that is not refused: control eats into the data field beside it.
+pub fn part_lengths(burst: u32, direction: Direction, factor: u32, tfci: u32, tpc: u32) -> Lengths
     requires { ⌜ firstOf (partsRefusals burst direction factor tfci tpc) ≡ 0 ⌝ }
-    ensures { λ r. ⌜ r ≡ partLengths burst direction factor tfci tpc ⌝ }
+    ensures { λ r. ⌜ r ≡ lengthsOf burst direction factor tfci tpc ⌝ }
 {
     let control = control_chips(direction, factor);
     let half = tfci / 2 / 2 * control;
@@ -44,13 +56,13 @@ pub fn part_lengths(burst: u32, direction: Direction, factor: u32, tfci: u32, tp
     let midamble = field_length(burst, 1);
     let data2 = field_length(burst, 2);
     let guard = field_length(burst, 3);
-    [
-        data1 - half,
-        half, // of TFCI, the first
+    Lengths {
+        data1: data1 - half,
+        tfci1: half,
         midamble,
-        power,
-        half, // of TFCI, the second
-        data2 - (power + half),
+        tpc: power,
+        tfci2: half,
+        data2: data2 - (power + half),
         guard,
-    ]
+    }
 }

@@ -1,21 +1,10 @@
 // Document 01, "Parts of a timeslot (clause 5.2.2)": where the seven parts lie, and what lies at a chip.
-mod conditions;
 mod lengths;
 mod places;
 
-pub use conditions::bad_control;
-pub use conditions::bad_down_factor;
-pub use conditions::bad_down_type;
-pub use conditions::bad_factor;
-pub use conditions::is_down;
+use conditions::Direction;
 ghost use mathlib.Core.Path.{_≡_};
 ghost use Rattle.timeslots.specs.Calls.{saidParts, partsAnswer, saidAt, atAnswer};
-
-// Of a timeslot or a booking: up or down, there is no third.
-pub enum Direction {
-    Up,
-    Down,
-}
 
 // A part of the timeslot: its first chip and its length in chips.
 pub struct Span {
@@ -51,7 +40,7 @@ pub enum Symbol {
 }
 
 // What lies at a chip: midamble or guard with the offset in it from 0, or a symbol.
-pub enum ChipAnswer {
+pub enum AtAnswer {
     Refused(u32),
     Midamble(u32),
     Guard(u32),
@@ -62,37 +51,24 @@ pub enum ChipAnswer {
 pub fn parts(burst: u32, direction: Direction, factor: u32, tfci: u32, tpc: u32) -> PartsAnswer
     ensures { λ r. ⌜ saidParts r ≡ partsAnswer burst direction factor tfci tpc ⌝ }
 {
-    let n = conditions::refusal(burst, direction, factor, tfci, tpc);
+    let n = tables::parts_refusal(burst, direction, factor, tfci, tpc);
     if n != 0 {
         return PartsAnswer::Refused(n);
     }
-    let lengths = lengths::part_lengths(burst, direction, factor, tfci, tpc);
-    let layout = places::placed(lengths, factor);
+    let layout = places::placed(burst, direction, factor, tfci, tpc);
     PartsAnswer::Parts(layout)
 }
 
 // What lies at a chip of a timeslot. Refusals: 2, 6, 7, 8, 10.
-pub fn at(
-    burst: u32,
-    direction: Direction,
-    factor: u32,
-    tfci: u32,
-    tpc: u32,
-    chip: u32,
-) -> ChipAnswer
+pub fn at(burst: u32, direction: Direction, factor: u32, tfci: u32, tpc: u32, chip: u32) -> AtAnswer
     ensures { λ r. ⌜ saidAt r ≡ atAnswer burst direction factor tfci tpc chip ⌝ }
 {
-    let n = conditions::refusal(burst, direction, factor, tfci, tpc);
+    let n = tables::parts_refusal(burst, direction, factor, tfci, tpc);
     if n != 0 {
-        return ChipAnswer::Refused(n);
+        return AtAnswer::Refused(n);
     }
     if chip > 2559 {
-        return ChipAnswer::Refused(10);
+        return AtAnswer::Refused(10);
     }
-    let lengths = lengths::part_lengths(burst, direction, factor, tfci, tpc);
-    let place = places::place_of(lengths, chip);
-    let part = place.part;
-    let offset = place.offset;
-    let control = lengths::control_chips(direction, factor);
-    places::named(part, offset, factor, control)
+    places::lies_at(burst, direction, factor, tfci, tpc, chip)
 }

@@ -1,8 +1,7 @@
--- `beacons::is_beacon` meets its contract: the tests are those of the definition.
+-- `beacons::is_beacon` meets its contract: its tests ask for one of the listed timeslots.
 -- Assumes nothing.
-use mathlib.Core.Path.{refl}
 use borrow.Author.Needs.{needs}
-use Rattle.beacons.specs.Beacons.{isBeacon}
+use Rattle.beacons.proofs.Passed.{is-beacon-tested}
 use Rattle.beacons.proofs.is_beacon.Statement.{statement}
 use Rattle.beacons.proofs.is_beacon.Tie as tie
 
@@ -10,8 +9,7 @@ add-result : tie.Need-add-result
 add-result c = search needs
 
 returns : tie.Need-returns
-unfolding isBeacon
-returns c = refl
+returns c = is-beacon-tested _ _ _
 
 pub is-beacon-spec : {M : Type 1} → statement M
 is-beacon-spec = tie.close (tie.spec add-result returns)

@@ -1,140 +1,99 @@
--- `timeslots::places::placed` meets its contract: each part starts where the one before it ends, which is where the definition has it.
+-- `timeslots::places::placed` meets its contract: each part starts where the part before it ends, which is where the definition has it.
 -- Assumes nothing.
-use mathlib.Core.Path.{_≡_, refl}
-use mathlib.Core.List.{List}
-use Prim.Native.Nat.{ℕ, _+_}
+use mathlib.Core.Path.{_≡_, sym, ap, subst, _∙_}
+use Prim.Native.Nat.{ℕ, _+_, _*_, _/_}
+use native.Mathlib.Nat.{zero-add, div-le-self}
 use native.Mathlib.Omega.{arith}
-use lib.ListN.{getD}
 use borrow.Author.Needs.{needs}
-use Rattle.timeslots.specs.declared.Span.{Span}
-use Rattle.timeslots.specs.Timeslots.{start, span, spans, bitsOf, sevenParts}
+use Rattle.conditions.specs.declared.Direction.{Direction}
+use Rattle.refusals.specs.Refusals.{firstOf}
+use Rattle.tables.specs.Tables.{partsRefusals}
+use Rattle.timeslots.specs.declared.Layout.{Layout}
+use Rattle.timeslots.specs.declared.lengths.Lengths.{Lengths}
+use Rattle.timeslots.specs.Timeslots.{order, bitsOfChips, spans, partLengths, sevenParts}
+use Rattle.timeslots.specs.Inside.{lengthsOf}
 use Rattle.timeslots.specs.Calls.{saidLayout}
-use Rattle.timeslots.proofs.Spans.{start-first, start-next}
+use Rattle.timeslots.proofs.Sizes.{request, lengths-total}
 use Rattle.timeslots.proofs.places.placed.Statement.{statement}
 use Rattle.timeslots.proofs.places.placed.Tie as tie
 
--- the starts of seven parts, each from the one before
-record Starts (ls : List ℕ) : Type 0 where
-  s0 : start ls 0 ≡ 0
-  s1 : start ls 1 ≡ start ls 0 + getD ls 0 0
-  s2 : start ls 2 ≡ start ls 1 + getD ls 1 0
-  s3 : start ls 3 ≡ start ls 2 + getD ls 2 0
-  s4 : start ls 4 ≡ start ls 3 + getD ls 3 0
-  s5 : start ls 5 ≡ start ls 4 + getD ls 4 0
-  s6 : start ls 6 ≡ start ls 5 + getD ls 5 0
-  s7 : start ls 7 ≡ start ls 6 + getD ls 6 0
+-- of the lengths l that were fetched: all seven make 2,560 chips, and laid one behind the other they are the parts
+module _ (burst : ℕ) (direction : Direction) (factor tfci tpc : ℕ) (l : Lengths) (q : l ≡ lengthsOf burst direction factor tfci tpc) where
+  total : firstOf (partsRefusals burst direction factor tfci tpc) ≡ 0
+      → l .data1 + l .tfci1 + l .midamble + l .tpc + l .tfci2 + l .data2 + l .guard ≡ 2560
+  unfolding lengthsOf
+  total e =
+      subst (λ (r : Lengths). r .data1 + r .tfci1 + r .midamble + r .tpc + r .tfci2 + r .data2 + r .guard ≡ 2560) (sym q)
+      (lengths-total burst direction factor tfci tpc e)
 
-starts : (ls : List ℕ) → Starts ls
-starts ls =
-    record {
-      s0 = start-first ls;
-      s1 = start-next ls 0;
-      s2 = start-next ls 1;
-      s3 = start-next ls 2;
-      s4 = start-next ls 3;
-      s5 = start-next ls 4;
-      s6 = start-next ls 5;
-      s7 = start-next ls 6;
-    }
+  -- the parts as the code lays them
+  abbrev laid : Lengths → Layout
+  laid r =
+      let a = r .data1 + r .tfci1 in
+      let b = a + r .midamble in
+      let c = b + r .tpc in
+      let d = c + r .tfci2 in
+      record {
+        data1 = record { start = 0; length = r .data1 };
+        tfci1 = record { start = r .data1; length = r .tfci1 };
+        midamble = record { start = a; length = r .midamble };
+        tpc = record { start = b; length = r .tpc };
+        tfci2 = record { start = c; length = r .tfci2 };
+        data2 = record { start = d; length = r .data2 };
+        guard = record { start = d + r .data2; length = r .guard };
+        bits1 = r .data1 / factor * 2;
+        bits2 = r .data2 / factor * 2;
+      }
 
--- a part as it is placed
-record Placed (ls : List ℕ) (p : ℕ) (s : Span) : Type 0 where
-  from : s .start ≡ start ls p
-  long : s .length ≡ getD ls p 0
+  as-said : saidLayout (laid l) ≡ sevenParts burst direction factor tfci tpc
+  unfolding saidLayout sevenParts partLengths order spans bitsOfChips lengthsOf
+  as-said = ap (λ (r : Lengths). saidLayout (laid r)) q ∙ simp zero-add
 
-as-said : (ls : List ℕ) (factor b1 b2 : ℕ) (d1 t1 m c t2 d2 g : Span)
-    → Placed ls 0 d1 → Placed ls 1 t1 → Placed ls 2 m → Placed ls 3 c → Placed ls 4 t2 → Placed ls 5 d2 → Placed ls 6 g
-    → b1 ≡ bitsOf (getD ls 0 0) factor → b2 ≡ bitsOf (getD ls 5 0) factor
-    → saidLayout (record { data1 = d1; tfci1 = t1; midamble = m; tpc = c; tfci2 = t2; data2 = d2; guard = g; bits1 = b1; bits2 = b2 }) ≡ sevenParts ls factor
-unfolding saidLayout sevenParts spans span
-as-said ls factor b1 b2 d1 t1 m c t2 d2 g p0 p1 p2 p3 p4 p5 p6 e1 e2 = cc
+part-lengths-requires : tie.Need-part-lengths-requires
+part-lengths-requires c κs = search needs
 
-array-read-behind : tie.Need-array-read-behind
-array-read-behind c = search needs
+add-to-midamble : tie.Need-add-to-midamble
+add-to-midamble c = omega (arith, total _ _ _ _ _ _ (c .part-lengths .ensures) (c .before .pre))
 
-array-read-behind-2 : tie.Need-array-read-behind-2
-array-read-behind-2 c = search needs
+add-to-power : tie.Need-add-to-power
+add-to-power c = omega (arith, total _ _ _ _ _ _ (c .part-lengths .ensures) (c .before .pre))
 
-behind-requires : tie.Need-behind-requires
-behind-requires c κs = let s = starts (c .args .t1) in omega arith
+add-to-tfci2 : tie.Need-add-to-tfci2
+add-to-tfci2 c = omega (arith, total _ _ _ _ _ _ (c .part-lengths .ensures) (c .before .pre))
 
-array-read-behind-3 : tie.Need-array-read-behind-3
-array-read-behind-3 c = search needs
+add-to-data2 : tie.Need-add-to-data2
+add-to-data2 c = omega (arith, total _ _ _ _ _ _ (c .part-lengths .ensures) (c .before .pre))
 
-behind-requires-2 : tie.Need-behind-requires-2
-behind-requires-2 c κs = let s = starts (c .before .args .t1) in omega arith
+add-to-guard : tie.Need-add-to-guard
+add-to-guard c = omega (arith, total _ _ _ _ _ _ (c .part-lengths .ensures) (c .before .pre))
 
-array-read-behind-4 : tie.Need-array-read-behind-4
-array-read-behind-4 c = search needs
+div-t26 : tie.Need-div-t26
+div-t26 c = omega (arith, request _ _ _ _ _ (c .before .pre) .factor-low)
 
-behind-requires-3 : tie.Need-behind-requires-3
-behind-requires-3 c κs = let s = starts (c .before .before .args .t1) in omega arith
+mul-t27 : tie.Need-mul-t27
+mul-t27 c = omega (arith, total _ _ _ _ _ _ (c .part-lengths .ensures) (c .before .pre), div-le-self (c .part-lengths .result .data1) (c .before .args .factor))
 
-array-read-behind-5 : tie.Need-array-read-behind-5
-array-read-behind-5 c = search needs
+div-t28 : tie.Need-div-t28
+div-t28 c = omega (arith, request _ _ _ _ _ (c .before .pre) .factor-low)
 
-behind-requires-4 : tie.Need-behind-requires-4
-behind-requires-4 c κs = let s = starts (c .before .before .before .args .t1) in omega arith
-
-array-read-behind-6 : tie.Need-array-read-behind-6
-array-read-behind-6 c = search needs
-
-behind-requires-5 : tie.Need-behind-requires-5
-behind-requires-5 c κs = let s = starts (c .before .before .before .before .args .t1) in omega arith
-
-array-read-behind-7 : tie.Need-array-read-behind-7
-array-read-behind-7 c = search needs
-
-behind-requires-6 : tie.Need-behind-requires-6
-behind-requires-6 c κs = let s = starts (c .before .before .before .before .before .args .t1) in omega arith
-
-array-read-bits : tie.Need-array-read-bits
-array-read-bits c = search needs
-
-bits-requires : tie.Need-bits-requires
-bits-requires c κs = let s = starts (c .before .before .before .before .before .before .args .t1) in (omega arith, omega arith)
-
-array-read-bits-2 : tie.Need-array-read-bits-2
-array-read-bits-2 c = search needs
-
-bits-requires-2 : tie.Need-bits-requires-2
-bits-requires-2 c κs = let s = starts (c .before .before .before .before .before .before .before .args .t1) in (omega arith, omega arith)
+mul-t29 : tie.Need-mul-t29
+mul-t29 c = omega (arith, total _ _ _ _ _ _ (c .part-lengths .ensures) (c .before .pre), div-le-self (c .part-lengths .result .data2) (c .before .args .factor))
 
 returns : tie.Need-returns
-returns c =
-    let b = c .before .before in
-    let d = b .before .before .before .before .before in
-    let s = starts (d .before .args .t1) in
-    as-said _ _ _ _ _ _ _ _ _ _ _
-    (record { from = omega arith; long = refl })
-    (record { from = omega arith; long = omega arith })
-    (record { from = omega arith; long = omega arith })
-    (record { from = omega arith; long = omega arith })
-    (record { from = omega arith; long = omega arith })
-    (record { from = omega arith; long = omega arith })
-    (record { from = omega arith; long = omega arith })
-    (c .before .bits .ensures)
-    (c .bits2 .ensures)
+returns c = as-said _ _ _ _ _ _ (c .part-lengths .ensures)
 
 pub placed-spec : {M : Type 1} → statement M
 placed-spec =
     tie.close
     (tie.spec
-    array-read-behind
-    array-read-behind-2
-    behind-requires
-    array-read-behind-3
-    behind-requires-2
-    array-read-behind-4
-    behind-requires-3
-    array-read-behind-5
-    behind-requires-4
-    array-read-behind-6
-    behind-requires-5
-    array-read-behind-7
-    behind-requires-6
-    array-read-bits
-    bits-requires
-    array-read-bits-2
-    bits-requires-2
+    part-lengths-requires
+    add-to-midamble
+    add-to-power
+    add-to-tfci2
+    add-to-data2
+    add-to-guard
+    div-t26
+    mul-t27
+    div-t28
+    mul-t29
     returns)

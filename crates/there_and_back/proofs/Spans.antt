@@ -1,13 +1,27 @@
 -- Parts laid one behind the other, over any row of lengths: each starts where the one before ends, every chip is in exactly one,
--- and `holder` finds it. Cited by proofs/Cover.antt, proofs/Agree.antt and the proofs of `placed` and `at`. Assumes nothing.
+-- and what `spans` and `lies` say of them. Cited by proofs/Cover.antt and proofs/Agree.antt. Assumes nothing.
 use mathlib.Core.Path.{_≡_, refl, sym, ap, _∙_}
-use mathlib.Core.List.{List, [], _∷_}
-use Prim.Native.Nat.{ℕ, zero, suc, _+_, _-_, _<_, _≤_}
+use mathlib.Core.Bool.{cond}
+use mathlib.Core.List.{List, [], _∷_, _++_, map}
+use Prim.Native.Nat.{ℕ, zero, suc, _+_, _-_, _/_, _<_, _≤_}
 use native.Mathlib.Omega.{arith}
 use native.Mathlib.Decide.{decLt}
+use native.Mathlib.Nat.{add-zero, zero-add, div-one}
+use lib.Dec.{ltb}
 use lib.ListN.{length, getD}
 use borrow.Author.Tests.{lt-ltb, le-ltb}
-use Rattle.timeslots.specs.Timeslots.{start, holder}
+use Rattle.timeslots.specs.Timeslots.{Part, GUARD, spans, lies}
+
+-- where part p of these lengths starts, counted from 0
+unfoldable pub start : List ℕ → ℕ → ℕ
+start ls zero = 0
+start [] (suc p) = 0
+start (l ∷ ls) (suc p) = l + start ls p
+
+-- the part that holds a chip, by its place from 0, and the chip's offset in it
+unfoldable pub holder : List ℕ → ℕ → ℕ × ℕ
+holder [] chip = (0, chip)
+holder (l ∷ ls) chip = cond (ltb chip l) (0, chip) (let f = holder ls (chip - l) in (suc (f .0), f .1))
 
 -- what holds of each of the seven parts
 pub each-of-seven : (P : ℕ → Type 0) → P 0 → P 1 → P 2 → P 3 → P 4 → P 5 → P 6 → (p : ℕ) → p < 7 → P p
@@ -89,3 +103,34 @@ within-one ls p q chip v w = ap (λ (f : ℕ × ℕ). f .0) (sym (within-holder 
 
 pub within-end : (ls : List ℕ) (p chip : ℕ) → Within ls p chip → chip < start ls (length ls)
 within-end ls p chip w = omega (arith, w .until, end-within ls p (w .part))
+
+-- the span of part p
+from-at : (a : ℕ) (ls : List ℕ) (p : ℕ) → p < length ls → getD (spans a ls) p (0, 0) ≡ (a + start ls p, getD ls p 0)
+unfolding spans start
+from-at a [] p h = absurd (omega arith)
+from-at a (l ∷ ls) zero h = simp add-zero
+from-at a (l ∷ ls) (suc p) h =
+    let e : a + l + start ls p ≡ a + (l + start ls p) = omega arith in
+    from-at (a + l) ls p (omega arith) ∙ ap (λ (x : ℕ). (x, getD ls p 0)) e
+
+pub spans-at : (ls : List ℕ) (p : ℕ) → p < length ls → getD (spans 0 ls) p (0, 0) ≡ (start ls p, getD ls p 0)
+spans-at ls p h = from-at 0 ls p h ∙ ap (λ (x : ℕ). (x, getD ls p 0)) (zero-add (start ls p))
+
+-- what lies at a chip of some part: the part that holds it, and how many were counted up to its offset
+module _ (long counted : Part → ℕ) (one : counted GUARD ≡ 1) where
+  abbrev all : List Part → List ℕ
+  all ps = map long (ps ++ (GUARD ∷ []))
+
+  abbrev said : List Part → ℕ × ℕ → Part × ℕ
+  said ps f = let x = getD (ps ++ (GUARD ∷ [])) (f .0) GUARD in (x, f .1 / counted x)
+
+  pub lies-holder : (ps : List Part) (chip : ℕ) → chip < start (all ps) (length (all ps)) → lies long counted ps chip ≡ said ps (holder (all ps) chip)
+  unfolding lies start holder
+  lies-holder [] chip h = simp (lt-ltb chip (long GUARD) (omega arith), one, div-one)
+  lies-holder (x ∷ ps) chip h = by (decLt chip (long x)) (λ b. lies-holder ps (chip - long x) b)
+    where
+      by : Dec (chip < long x)
+          → (chip - long x < start (all ps) (length (all ps)) → lies long counted ps (chip - long x) ≡ said ps (holder (all ps) (chip - long x)))
+          → lies long counted (x ∷ ps) chip ≡ said (x ∷ ps) (holder (all (x ∷ ps)) chip)
+      by (yes a) f = simp (lt-ltb chip (long x) a)
+      by (no n) f = simp (le-ltb chip (long x) (omega arith), f (omega arith))

@@ -7,12 +7,12 @@ use Prim.Native.Nat.{ℕ, suc, _+_, _<_, _≤_}
 use native.Mathlib.Omega.{arith}
 use lib.ListN.{length, getD}
 use Rattle.refusals.specs.Refusals.{answered}
-use Rattle.timeslots.specs.declared.Direction.{Direction}
-use Rattle.timeslots.specs.Timeslots.{partLengths, start, span, spans, sevenParts}
+use Rattle.conditions.specs.declared.Direction.{Direction}
+use Rattle.timeslots.specs.Timeslots.{order, spans, partLengths, SevenParts, sevenParts}
 use Rattle.timeslots.specs.Calls.{partsAnswer}
-use Rattle.timeslots.proofs.Spans.{each-of-seven, start-first, start-next, Within, holder-within, within-one, within-end}
-use Rattle.timeslots.proofs.Sizes.{lengths-seven, lengths-total}
+use Rattle.there_and_back.proofs.Spans.{start, spans-at, start-first, start-next, Within, holder-within, within-one, within-end}
+use Rattle.timeslots.proofs.Sizes.{lengths-total}
 use Rattle.timeslots.proofs.Answers.{parts-given}
 
 -- part p of these spans (first chip, length) holds chip chip
 pub record Holds (s : List (ℕ × ℕ)) (p chip : ℕ) : Type 0 where
@@ -20,19 +20,13 @@ pub record Holds (s : List (ℕ × ℕ)) (p chip : ℕ) : Type 0 where
   pub from : getD s p (0, 0) .0 ≤ chip
   pub until : chip < getD s p (0, 0) .0 + getD s p (0, 0) .1
 
--- of seven lengths, span p is where part p starts and how long it is
-pub spans-at : (ls : List ℕ) (p : ℕ) → p < 7 → getD (spans ls) p (0, 0) ≡ (start ls p, getD ls p 0)
-unfolding spans span
-spans-at ls =
-    each-of-seven (λ (p : ℕ). getD (spans ls) p (0, 0) ≡ (start ls p, getD ls p 0)) refl refl refl refl refl refl refl
-
 module _ (ls : List ℕ) (seven : length ls ≡ 7) (p chip : ℕ) where
-  holds-within : Holds (spans ls) p chip → Within ls p chip
+  holds-within : Holds (spans 0 ls) p chip → Within ls p chip
   holds-within h =
-      let e = spans-at ls p (h .part) in
+      let e = spans-at ls p (omega (arith, seven, h .part)) in
       record { part = omega (arith, seven, h .part); from = rw e at (h .from); until = rw e at (h .until) }
 
-  within-holds : Within ls p chip → Holds (spans ls) p chip
+  within-holds : Within ls p chip → Holds (spans 0 ls) p chip
   within-holds w =
       let e = spans-at ls p (omega (arith, seven, w .part)) in
       record { part = omega (arith, seven, w .part); from = rw e (w .from); until = rw e (w .until) }
@@ -42,15 +36,17 @@ module _ (burst : ℕ) (direction : Direction) (factor tfci tpc : ℕ) (s : List
   abbrev ls : List ℕ
   ls = partLengths burst direction factor tfci tpc
 
-  seven : length ls ≡ 7
-  seven = lengths-seven burst direction factor tfci tpc
+  pub seven : length ls ≡ 7
+  unfolding partLengths order
+  seven = refl
 
-  pub spans-given : spans ls ≡ s
+  pub spans-given : spans 0 ls ≡ s
   unfolding sevenParts
-  spans-given = ap (λ (t : List (ℕ × ℕ) × (ℕ × ℕ)). t .0) (parts-given burst direction factor tfci tpc (s, bits) given .1)
+  spans-given = ap (λ (t : SevenParts). t .0) (parts-given burst direction factor tfci tpc (s, bits) given .1)
 
-  total : start ls (length ls) ≡ 2560
-  total = rw seven (lengths-total burst direction factor tfci tpc (parts-given burst direction factor tfci tpc (s, bits) given .0))
+  pub total : start ls (length ls) ≡ 2560
+  unfolding partLengths order start
+  total = omega (arith, lengths-total burst direction factor tfci tpc (parts-given burst direction factor tfci tpc (s, bits) given .0))
 
   -- the chips that lie in some part are the chips 0 to 2559
   pub covered : (chip : ℕ) → (chip < 2560) ↔ ((p : ℕ) × Holds s p chip)
@@ -66,7 +62,7 @@ module _ (burst : ℕ) (direction : Direction) (factor tfci tpc : ℕ) (s : List
 
   -- the first part starts at chip 0, and each other, empty or not, where the part before it ends
   pub first : getD s 0 (0, 0) .0 ≡ 0
-  first = rw (← spans-given, spans-at ls 0 (omega arith)) (start-first ls)
+  first = rw (← spans-given, spans-at ls 0 (omega (arith, seven))) (start-first ls)
 
   pub joined : (p : ℕ) → p < 6 → getD s (suc p) (0, 0) .0 ≡ getD s p (0, 0) .0 + getD s p (0, 0) .1
-  joined p h = rw (← spans-given) (rw (spans-at ls (suc p) (omega arith), spans-at ls p (omega arith)) (start-next ls p))
+  joined p h = rw (← spans-given) (rw (spans-at ls (suc p) (omega (arith, seven)), spans-at ls p (omega (arith, seven))) (start-next ls p))

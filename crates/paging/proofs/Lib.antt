@@ -1,12 +1,4 @@
-pub mod OneRun
-pub mod Tally
-pub mod Counted
-pub mod Heard
-pub mod Rows
 pub mod Passed
-pub mod Lent
 pub mod Places
-pub mod Owners
-pub mod Readings
-pub mod Flips
+pub mod Lent
 pub mod Unique

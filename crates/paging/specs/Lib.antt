@@ -1,3 +1,2 @@
 pub mod Paging
 pub mod Calls
-pub mod Inside

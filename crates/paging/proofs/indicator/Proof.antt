@@ -1,4 +1,4 @@
--- `paging::indicator` meets its contract: a lemma for each of its two answers, and the products are small.
+-- `paging::indicator` meets its contract: its first refusal, a lemma for each of its two answers, and the products are small.
 -- Assumes nothing.
 use mathlib.Core.Path.{_≡_, sym, ap, _∙_}
 use mathlib.Core.Bool.{Bool}
@@ -11,39 +11,41 @@ use borrow.Author.Needs.{needs}
 use Rattle.refusals.specs.Refusals.{firstOf}
 use Rattle.refusals.specs.Inside.{orRefused, rowByRow}
 use Rattle.refusals.proofs.First.{append-rows, append-front, refused-by, answered-by}
+use Rattle.conditions.specs.Conditions.{badFrames, badNumber}
+use Rattle.tables.specs.Tables.{pichRefusals}
+use Rattle.paging_bits.specs.Bits.{perFrame}
+use Rattle.paging_bits.specs.Inside.{Fits}
+use Rattle.paging_bits.proofs.OneRun.{run-within}
 use Rattle.paging.specs.declared.IndicatorAnswer.the-variants.{Refused, Placed}
-use Rattle.paging.specs.Paging.{halfOf, perFrame, placeOf}
-use Rattle.paging.specs.Calls.{pichRefusals, badFrames, badNumber, indicatorRefusals, placeSaid, indicatorAnswer}
-use Rattle.paging.specs.Inside.{Fits}
+use Rattle.paging.specs.Paging.{halfOf, placeOf}
+use Rattle.paging.specs.Calls.{indicatorRefusals, saidIndicator, indicatorAnswer}
 use Rattle.paging.proofs.Passed.{half-high, fits, pich-numbered}
-use Rattle.paging.proofs.OneRun.{run-within}
 use Rattle.paging.proofs.indicator.Statement.{statement}
 use Rattle.paging.proofs.indicator.Tie as tie
 
-module _ (burst L F PI H N : ℕ) (bad : Bool) (m k n : ℕ) (h : H ≡ halfOf burst) (p : N ≡ perFrame L H) (u : m ≡ firstOf (pichRefusals burst L))
-    (b : bad ≡ badFrames F) (s : k ≡ orRefused m 10 bad) (t : n ≡ orRefused k 10 (leb (N * F) PI)) where
-  first : n ≡ firstOf (indicatorRefusals burst L F PI)
-  unfolding rowByRow indicatorRefusals badNumber
-  first = rw (t, s, b, u, p, h) (append-rows (pichRefusals burst L) ((10, badFrames F) ∷ (10, badNumber L (halfOf burst) F PI) ∷ []) (pich-numbered burst L) tt)
+first : (burst L F PI H N : ℕ) (bad : Bool) (m k n : ℕ) → H ≡ halfOf burst → N ≡ perFrame L H → m ≡ firstOf (pichRefusals burst L)
+    → bad ≡ badFrames F → k ≡ orRefused m 10 bad → n ≡ orRefused k 10 (leb (N * F) PI) → n ≡ firstOf (indicatorRefusals burst L F PI)
+unfolding rowByRow indicatorRefusals badNumber
+first burst L F PI H N bad m k n h p u b s t =
+    rw (t, s, b, u, p, h) (append-rows (pichRefusals burst L) ((10, badFrames F) ∷ (10, badNumber (perFrame L (halfOf burst)) F PI) ∷ []) (pich-numbered burst L) tt)
 
-  is-refused : (n ≡ 0 → ⊥) → placeSaid (Refused n) ≡ indicatorAnswer burst L F PI
-  unfolding placeSaid indicatorAnswer
-  is-refused d = refused-by n _ _ first d
+module _ (burst L F PI n : ℕ) (e : n ≡ firstOf (indicatorRefusals burst L F PI)) where
+  is-refused : (n ≡ 0 → ⊥) → saidIndicator (Refused n) ≡ indicatorAnswer burst L F PI
+  unfolding saidIndicator indicatorAnswer
+  is-refused d = refused-by n _ _ e d
 
-  module _ (z : n ≡ 0) where
-    fitting : Fits L H
+  module _ (z : n ≡ 0) (H N : ℕ) (h : H ≡ halfOf burst) (p : N ≡ perFrame L H) where
+    fitting : Fits L N H
     unfolding indicatorRefusals
-    fitting = rw h (fits burst L (append-front (pichRefusals burst L) _ (pich-numbered burst L) (sym first ∙ z)))
+    fitting = rw (p, h) (fits burst L (append-front (pichRefusals burst L) _ (pich-numbered burst L) (sym e ∙ z)))
 
     -- a frame holds some, and q's second run ends within the carrying bits, at most 272
     small : (1 ≤ N) × (H + L * (PI % N) + L ≤ 272)
-    small =
-        let some : 1 ≤ N = omega (arith, fitting .number-low) in
-        (some, omega (arith, run-within L N (PI % N) (mod-lt PI some), ap (λ (j : ℕ). j * L) p, fitting .whole, fitting .half-high))
+    small = (fitting .some, omega (arith, run-within L N (PI % N) (mod-lt PI (fitting .some)), fitting .whole, half-high burst))
 
-    is-placed : placeSaid (Placed (PI / N) (PI % N) (L * (PI % N)) (H + L * (PI % N)) L) ≡ indicatorAnswer burst L F PI
-    unfolding placeSaid indicatorAnswer placeOf
-    is-placed = answered-by n _ _ _ first z (rw (p, h))
+    is-placed : saidIndicator (Placed (PI / N) (PI % N) (L * (PI % N)) (H + L * (PI % N)) L) ≡ indicatorAnswer burst L F PI
+    unfolding saidIndicator indicatorAnswer placeOf
+    is-placed = answered-by n _ _ _ e z (rw (p, h))
 
 -- at most 136 a frame, and frames without limit: the product fits 64 bits
 product-small : (N F L H burst : ℕ) → H ≡ halfOf burst → N ≡ perFrame L H → F < 2 ^ 32 → N * F < 2 ^ 64
@@ -76,11 +78,15 @@ or-refused-requires c κs = search needs
 or-refused-requires-2 : tie.Need-or-refused-requires-2
 or-refused-requires-2 c κs = search needs
 
+-- the refusal that was found is the table's first
+found : (c : tie.After-or-refused2) → let a = c .before .before .before .before .before .before .args in c .or-refused2 .result ≡ firstOf (indicatorRefusals (a .burst) (a .length) (a .frames) (a .number))
+found c =
+    let d = c .before .before .before in
+    first _ _ _ _ _ _ _ _ _ _ (d .before .before .half-of .ensures) (d .before .per-frame .ensures) (d .pich-refusal .ensures)
+    (c .before .before .bad-frames .ensures) (c .before .or-refused .ensures) (c .or-refused2 .ensures)
+
 returns : tie.Need-returns
-returns c =
-    let d = c .before .before .before .before in
-    is-refused _ _ _ _ _ _ _ _ _ _ (d .before .before .half-of .ensures) (d .before .per-frame .ensures) (d .pich-refusal .ensures)
-    (c .before .before .before .bad-frames .ensures) (c .before .before .or-refused .ensures) (c .before .or-refused2 .ensures) (c .if1 .taken)
+returns c = is-refused _ _ _ _ _ (found (c .before)) (c .if1 .taken)
 
 -- past the test: a frame holds some, and the runs are small
 told : (c : tie.Else1)
@@ -90,9 +96,7 @@ told : (c : tie.Else1)
     (1 ≤ per) × (d .before .before .half-of .result + args .length * (args .number % per) + args .length ≤ 272)
 told c =
     let d = c .before .before .before .before in
-    let args = d .before .before .before .args in
-    small _ _ (args .frames) (args .number) _ _ _ _ _ _ (d .before .before .half-of .ensures) (d .before .per-frame .ensures) (d .pich-refusal .ensures)
-    (c .before .before .before .bad-frames .ensures) (c .before .before .or-refused .ensures) (c .before .or-refused2 .ensures) (c .if1 .left)
+    small _ _ _ _ _ (found (c .before)) (c .if1 .left) _ _ (d .before .before .half-of .ensures) (d .before .per-frame .ensures)
 
 rem-q : tie.Need-rem-q
 rem-q c = told c .0
@@ -112,8 +116,7 @@ add-t18 c = omega (arith, told c .1)
 returns-2 : tie.Need-returns-2
 returns-2 c =
     let d = c .before .before .before .before in
-    is-placed _ _ _ _ _ _ _ _ _ _ (d .before .before .half-of .ensures) (d .before .per-frame .ensures) (d .pich-refusal .ensures)
-    (c .before .before .before .bad-frames .ensures) (c .before .before .or-refused .ensures) (c .before .or-refused2 .ensures) (c .if1 .left)
+    is-placed _ _ _ _ _ (found (c .before)) (c .if1 .left) _ _ (d .before .before .half-of .ensures) (d .before .per-frame .ensures)
 
 pub indicator-spec : {M : Type 1} → statement M
 indicator-spec =

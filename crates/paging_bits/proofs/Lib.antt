@@ -1,0 +1,4 @@
+pub mod OneRun
+pub mod Put
+pub mod Runs
+pub mod Counted

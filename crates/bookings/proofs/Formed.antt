@@ -9,11 +9,11 @@ use lib.Dec.{eqb, ltb}
 use borrow.Author.Tests.{eqb-true, ltb-false, not-false}
 use Rattle.laws.proofs.Bools.{or-false}
 use Rattle.laws.proofs.Cases.{either}
-use Rattle.refusals.specs.Refusals.{badType}
+use Rattle.conditions.specs.Conditions.{badType, badFactor, badDownFactor, badBookedUser, badTimeslot, badCode}
+use Rattle.tables.specs.Tables.{formRefusals}
 use Rattle.refusals.proofs.First.{first-none}
-use Rattle.timeslots.specs.Conditions.{badFactor, badDownFactor}
 use Rattle.bookings.specs.declared.Booking.{Booking}
-use Rattle.bookings.specs.Bookings.{badBookedUser, badTimeslot, badCode, formRefusals, formOf, leavesOf, firstLeaf, leaf}
+use Rattle.bookings.specs.Bookings.{formOf, leavesOf, firstLeaf, leaf}
 
 -- for each of the five factors
 within : (q k : ℕ) → 1 ≤ k → k ≤ q → (eqb q 1 || eqb q 2 || eqb q 4 || eqb q 8 || eqb q 16) ≡ true → ((k - 1) * (16 / q) ≤ 15) × (1 ≤ 16 / q)

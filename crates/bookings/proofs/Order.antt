@@ -9,9 +9,9 @@ use lib.Dec.{eqb, ltb}
 use borrow.Author.Tests.{ltb-true, ltb-false, lt-ltb, le-ltb, eqb-true, eq-eqb, not-true, not-false}
 use Rattle.laws.proofs.Bools.{true-false, and-true, or-false}
 use Rattle.laws.proofs.Lists.{by-cases, both}
-use Rattle.timeslots.specs.declared.Direction.{Direction}
-use Rattle.timeslots.specs.declared.Direction.the-variants.{Up, Down}
-use Rattle.timeslots.specs.Conditions.{isDown}
+use Rattle.conditions.specs.declared.Direction.{Direction}
+use Rattle.conditions.specs.declared.Direction.the-variants.{Up, Down}
+use Rattle.conditions.specs.Conditions.{isDown}
 use Rattle.bookings.specs.declared.Booking.{Booking}
 use Rattle.bookings.specs.Bookings.{leavesOf, leaf, overlaps, sameDirection, mixed, clash, key, comes, fine}
 use Rattle.bookings.proofs.Formed.{Formed}

@@ -1,37 +1,17 @@
 -- Document 01, "The class book" and "Beacon timeslots": what one booking must meet, what it covers, and when two of a seat clash.
 -- Cited by the crates seats and classbook. Assumes nothing.
-use mathlib.Core.Bool.{Bool, cond, not, _&&_, _||_}
+use mathlib.Core.Bool.{Bool, not, _&&_, _||_}
 use mathlib.Core.List.{[], _∷_}
 use Prim.Native.Nat.{ℕ, _+_, _-_, _*_, _/_}
 use lib.Dec.{eqb, ltb}
-use Rattle.refusals.specs.Refusals.{Refusals, firstOf, badType}
-use Rattle.timeslots.specs.declared.Direction.{Direction}
-use Rattle.timeslots.specs.declared.Direction.the-variants.{Up, Down}
-use Rattle.timeslots.specs.Conditions.{isDown, badFactor, badDownFactor, badDownType, badControl}
+use Rattle.conditions.specs.Conditions.{isDown}
+use Rattle.tables.specs.Tables.{formRefusals}
+use Rattle.refusals.specs.Refusals.{Refusals, firstOf}
+use Rattle.conditions.specs.declared.Direction.{Direction}
+use Rattle.conditions.specs.declared.Direction.the-variants.{Up, Down}
 use Rattle.bookings.specs.declared.Booking.{Booking}
 
--- 4, in a booking: user "outside 1..16 for types 1, 3; 1..6 for type 2"
-unfoldable pub badBookedUser : ℕ → ℕ → Bool
-badBookedUser burst user = ltb user 1 || ltb (cond (eqb burst 2) 6 16) user
-
--- 5: "timeslot above 14"
-unfoldable pub badTimeslot : ℕ → Bool
-badTimeslot timeslot = ltb 14 timeslot
-
--- 6: "spreading factor not 1, 2, 4, 8, 16; code index outside 1..factor"
-unfoldable pub badCode : ℕ → ℕ → Bool
-badCode factor index = badFactor factor || (ltb index 1 || ltb factor index)
-
--- "every booking passes 2 and 4 to 8"
-unfoldable pub formRefusals : ℕ → Direction → ℕ → ℕ → ℕ → ℕ → ℕ → ℕ → Refusals
-formRefusals timeslot direction burst factor index user tfci tpc =
-    (2, badType burst) ∷
-    (4, badBookedUser burst user) ∷
-    (5, badTimeslot timeslot) ∷
-    (6, badCode factor index || badDownFactor direction factor) ∷
-    (7, badDownType direction burst) ∷
-    (8, badControl direction tfci tpc) ∷ []
-
+-- "every booking passes 2 and 4 to 8": the first of these refusals that its own numbers get, or 0
 unfoldable pub formOf : Booking → ℕ
 formOf x = firstOf (formRefusals (x .timeslot) (x .direction) (x .burst) (x .factor) (x .index) (x .user) (x .tfci) (x .tpc))
 
@@ -39,9 +19,11 @@ formOf x = firstOf (formRefusals (x .timeslot) (x .direction) (x .burst) (x .fac
 unfoldable pub leavesOf : ℕ → ℕ
 leavesOf Q = 16 / Q
 
+-- the first of them
 unfoldable pub firstLeaf : ℕ → ℕ → ℕ
 firstLeaf Q k = (k - 1) * leavesOf Q
 
+-- the first leaf of a booking's code
 abbrev pub leaf : Booking → ℕ
 leaf x = firstLeaf (x .factor) (x .index)
 
@@ -68,6 +50,7 @@ clash x y =
 abbrev pub key : Booking → ℕ
 key x = x .timeslot * 16 + leaf x
 
+-- x comes before y in a list
 unfoldable pub comes : Booking → Booking → Bool
 comes x y = ltb (key x) (key y)
 
@@ -90,5 +73,6 @@ beaconRules x =
     (5, eqb (x .user) 9 || eqb (x .user) 10) ∷
     (6, isCode 1 1 x) ∷ []
 
+-- 18: one of them is broken
 unfoldable pub breaksBeacon : Booking → Bool
 breaksBeacon x = not (eqb (firstOf (beaconRules x)) 0)

@@ -2,8 +2,10 @@
 ghost use mathlib.Core.Path.{_≡_};
 ghost use Prim.Native.Nat.{_-_, _*_, _≤_};
 ghost use Rattle.refusals.specs.Refusals.{firstOf};
-ghost use Rattle.bookings.specs.Bookings.{badBookedUser, badTimeslot, badCode, formRefusals, formOf, leavesOf, leaf, sameDirection, clash, comes, fine, breaksBeacon};
-use timeslots::Direction;
+ghost use Rattle.conditions.specs.Conditions.{badBookedUser, badTimeslot, badCode};
+ghost use Rattle.tables.specs.Tables.{formRefusals};
+ghost use Rattle.bookings.specs.Bookings.{formOf, leavesOf, leaf, sameDirection, clash, comes, fine, breaksBeacon};
+use conditions::Direction;
 
 // A booking of a seat. Its numbers were tested when it was booked, so they are kept in a byte each.
 pub struct Booking {
@@ -17,65 +19,12 @@ pub struct Booking {
     pub tpc: u8,
 }
 
-// Refusal 4, in a booking.
-pub fn bad_booked_user(burst: u32, user: u32) -> bool
-    ensures { λ r. ⌜ r ≡ badBookedUser burst user ⌝ }
-{
-    if burst == 2 {
-        return (user < 1) | (user > 6);
-    }
-    (user < 1) | (user > 16)
-}
-
-// Refusal 5.
-pub fn bad_timeslot(timeslot: u32) -> bool
-    ensures { λ r. ⌜ r ≡ badTimeslot timeslot ⌝ }
-{
-    timeslot > 14
-}
-
-// Refusal 6, of a code.
-pub fn bad_code(factor: u32, index: u32) -> bool
-    ensures { λ r. ⌜ r ≡ badCode factor index ⌝ }
-{
-    let f = timeslots::bad_factor(factor);
-    f | ((index < 1) | (index > factor))
-}
-
-// The first of the refusals 2 and 4 to 8 that a booking's own numbers get, or 0.
-pub fn form_refusal(
-    timeslot: u32,
-    direction: Direction,
-    burst: u32,
-    factor: u32,
-    index: u32,
-    user: u32,
-    tfci: u32,
-    tpc: u32,
-) -> u32
-    ensures { λ r. ⌜ r ≡ firstOf (formRefusals timeslot direction burst factor index user tfci tpc) ⌝ }
-{
-    let two = refusals::bad_type(burst);
-    let four = bad_booked_user(burst, user);
-    let five = bad_timeslot(timeslot);
-    let code = bad_code(factor, index);
-    let down = timeslots::bad_down_factor(direction, factor);
-    let seven = timeslots::bad_down_type(direction, burst);
-    let eight = timeslots::bad_control(direction, tfci, tpc);
-    let n = refusals::or_refused(0, 2, two);
-    let n = refusals::or_refused(n, 4, four);
-    let n = refusals::or_refused(n, 5, five);
-    let n = refusals::or_refused(n, 6, code | down);
-    let n = refusals::or_refused(n, 7, seven);
-    refusals::or_refused(n, 8, eight)
-}
-
-// The same of a booking that is in a book.
+// The first of the refusals 2 and 4 to 8 that the own numbers of a booking in a book get, or 0.
 pub fn form_of(x: Booking) -> u32
     ensures { λ r. ⌜ r ≡ formOf x ⌝ }
 {
     let direction = x.direction;
-    form_refusal(
+    tables::form_refusal(
         x.timeslot as u32,
         direction,
         x.burst as u32,
@@ -128,7 +77,7 @@ fn leaf_at(index: u8, leaves: u32) -> u32
 pub fn same_direction(d: Direction, e: Direction) -> bool
     ensures { λ r. ⌜ r ≡ sameDirection d e ⌝ }
 {
-    let down = timeslots::is_down(e);
+    let down = conditions::is_down(e);
     match d {
         Direction::Up => !down,
         Direction::Down => down,
@@ -198,7 +147,7 @@ pub fn breaks_beacon(x: Booking) -> bool
     ensures { λ r. ⌜ r ≡ breaksBeacon x ⌝ }
 {
     let d = x.direction;
-    let down = timeslots::is_down(d);
+    let down = conditions::is_down(d);
     let first = (x.factor == 16) & (x.index == 1);
     let a = !down | !(x.burst == 1);
     let b = first & !(x.user == 1);

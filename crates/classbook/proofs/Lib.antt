@@ -1,5 +1,6 @@
 pub mod Sized
-pub mod Answered
+pub mod Answers
+pub mod Tables
 pub mod Passed
 pub mod Small
 pub mod Made

@@ -1,38 +1,41 @@
--- The book that a call makes where it is not refused, and the number where it is, over plain values. Cited by the proofs of open_seat, book_code and cancel_code.
+-- What a call that was not refused may rely on, and the book that it makes, over plain values. Cited by the proofs of the calls, and by Valid.
 -- Assumes nothing.
 use mathlib.Core.Path.{_≡_, sym, ap, _∙_}
+use mathlib.Core.Bool.{Bool, true, false, not}
 use mathlib.Core.List.{[], _∷_}
 use Prim.Native.Nat.{ℕ, _<_}
 use native.Mathlib.Omega.{arith}
-use lib.Dec.{T}
-use lib.ListN.{length}
+use lib.Dec.{T, leb}
+use lib.ListN.{length, take}
 use borrow.Author.Tests.{leb-false}
+use Rattle.laws.specs.Lists.{every, removeAt}
 use Rattle.refusals.specs.Refusals.{firstOf}
 use Rattle.refusals.proofs.First.{numbered, append-refused, append-passes, append-front}
 use Rattle.bookings.specs.declared.Booking.{Booking}
-use Rattle.seats.specs.declared.seat.Seat.{Seat}
-use Rattle.bookings.specs.Bookings.{formRefusals}
-use Rattle.seats.specs.Seats.{held, bookings, settingsRefusals, insert, withPlan}
-use Rattle.seats.specs.Inside.{placeNamed, putIn, takenOut}
-use Rattle.seats.proofs.Plans.{plan-length, put-in-plan}
-use Rattle.seats.proofs.Cancelled.{placed-or-none, taken-out-plan}
+use Rattle.seats.specs.declared.Seat.{Seat}
+use Rattle.tables.specs.Tables.{formRefusals, settingsRefusals}
+use Rattle.seats.specs.Seats.{held, bookings, insert, names, without, withPlan, seatOk}
+use Rattle.plans.specs.Inside.{placeNamed}
+use Rattle.plans.proofs.Cancelled.{removed-plan}
 use Rattle.classbook.specs.declared.Book.{Book}
 use Rattle.classbook.specs.declared.Request.{Request}
 use Rattle.classbook.specs.Book.{seatOf, withSeat}
-use Rattle.classbook.specs.Calls.{longCount, shortCount, badBook, badSeat, isOpen, noneNamed, openRefusals, asBooking, requestRefusals, bookingRefusals, bookRefusals, booked, cancelRefusals, cancelled}
+use Rattle.classbook.specs.Conditions.{badBook, badSeat, isOpen, noneNamed}
+use Rattle.classbook.specs.Calls.{longCount, shortCount, openRefusals, withBook, asBooking, requestRefusals, bookingRefusals, bookRefusals, booked, bookAnswer, cancelRefusals, cancelled}
+use Rattle.classbook.specs.Inside.{bookingAnswer}
 use Rattle.classbook.proofs.Passed.{seat-good, booking-passed, cancel-passed}
 
 -- ---- open: the settings passed
-settings-numbered : (cell long short sync k : ℕ) → T (numbered (settingsRefusals cell long short sync k))
+settings-numbered : (cell case k long short : ℕ) → T (numbered (settingsRefusals cell case k long short))
 unfolding settingsRefusals
-settings-numbered cell long short sync k = tt
+settings-numbered cell case k long short = tt
 
-pub settings-passed : (b : Book) (seat cell sync k long short : ℕ) → firstOf (openRefusals b seat cell sync k long short) ≡ 0
-    → firstOf (settingsRefusals cell (longCount long) (shortCount short) sync k) ≡ 0
+pub settings-passed : (b : Book) (seat cell case k long short : ℕ) → firstOf (openRefusals b seat cell case k long short) ≡ 0
+    → firstOf (settingsRefusals cell case k (longCount long) (shortCount short)) ≡ 0
 unfolding openRefusals
-settings-passed b seat cell sync k long short e =
-    append-front (settingsRefusals cell (longCount long) (shortCount short) sync k) ((12, badBook b) ∷ (13, badSeat seat) ∷ (15, isOpen b seat) ∷ [])
-    (settings-numbered cell (longCount long) (shortCount short) sync k) e
+settings-passed b seat cell case k long short e =
+    append-front (settingsRefusals cell case k (longCount long) (shortCount short)) ((12, badBook b) ∷ (13, badSeat seat) ∷ (15, isOpen b seat) ∷ [])
+    (settings-numbered cell case k (longCount long) (shortCount short)) e
 
 -- ---- book: the request's own refusals come first, then the booking's
 request-numbered : (x : Request) → T (numbered (requestRefusals x))
@@ -43,43 +46,44 @@ pub book-early : (b : Book) (seat : ℕ) (x : Request) (n : ℕ) → n ≡ first
 unfolding bookRefusals
 book-early b seat x n e h = e ∙ sym (append-refused (requestRefusals x) (bookingRefusals b seat (asBooking x)) (λ z. h (e ∙ z)))
 
-pub book-late : (b : Book) (seat : ℕ) (x : Request) (y : Booking) (n m : ℕ) → n ≡ firstOf (requestRefusals x) → n ≡ 0 → y ≡ asBooking x
-    → m ≡ firstOf (bookingRefusals b seat y) → m ≡ firstOf (bookRefusals b seat x)
-unfolding bookRefusals
-book-late b seat x y n m e z ey em =
-    em ∙ ap (λ (w : Booking). firstOf (bookingRefusals b seat w)) ey
-    ∙ sym (append-passes (requestRefusals x) (bookingRefusals b seat (asBooking x)) (request-numbered x) (sym e ∙ z))
+pub book-late : (b : Book) (seat : ℕ) (x : Request) → firstOf (requestRefusals x) ≡ 0 → bookingAnswer b seat (asBooking x) ≡ bookAnswer b seat x
+unfolding bookAnswer bookingAnswer bookRefusals
+book-late b seat x z =
+    ap (λ (n : ℕ). withBook n b (booked b seat (asBooking x)))
+    (sym (append-passes (requestRefusals x) (bookingRefusals b seat (asBooking x)) (request-numbered x) z))
 
-pub booked-made : (b : Book) (seat : ℕ) (y z : Booking) (s : Seat) → length (b .seats) ≡ 16 → s ≡ seatOf b seat → length (s .row) ≡ 40 → y ≡ z
-    → firstOf (bookingRefusals b seat y) ≡ 0 → withSeat b seat (putIn s y) ≡ booked b seat z
-unfolding booked
-booked-made b seat y z s sixteen es wide ey e =
-    let p = booking-passed b seat y e in
-    let t = seatOf b seat in
-    let width : length (t .row) ≡ 40 = ap (λ (u : Seat). length (u .row)) (sym es) ∙ wide in
-    ap (λ (u : Seat). withSeat b seat (putIn u y)) es
-    ∙ ap (λ (u : Seat). withSeat b seat u) (put-in-plan t (seat-good b seat sixteen (p .valid) (p .seat-low)) width y (p .few))
-    ∙ ap (λ (w : Booking). withSeat b seat (withPlan t (insert w (bookings t)))) ey
-
--- ---- cancel
-pub cancel-place : (b : Book) (seat timeslot factor index : ℕ) → length (seatOf b seat .row) ≡ 40 → firstOf (cancelRefusals b seat timeslot factor index) ≡ 0
-    → placeNamed timeslot factor index (bookings (seatOf b seat)) < held (seatOf b seat)
+-- ---- book and cancel: what was found of the seat
+pub one-named : (s : Seat) (timeslot factor index n p : ℕ) → n ≡ held s
+    → leb n p ≡ every (λ y. not (names timeslot factor index y)) (take n (s .row)) → leb n p ≡ noneNamed s timeslot factor index
 unfolding noneNamed
-cancel-place b seat timeslot factor index wide e =
-    let p = cancel-passed b seat timeslot factor index e in
-    let l = bookings (seatOf b seat) in
-    let there : placeNamed timeslot factor index l < length l = leb-false (length l) (placeNamed timeslot factor index l) (placed-or-none timeslot factor index l ∙ p .there) in
-    omega (arith, plan-length (seatOf b seat) wide)
+one-named s timeslot factor index n p en e = e ∙ ap (λ (k : ℕ). every (λ y. not (names timeslot factor index y)) (take k (s .row))) en
 
-pub cancelled-made : (b : Book) (seat timeslot factor index p : ℕ) (s : Seat) → length (b .seats) ≡ 16 → s ≡ seatOf b seat → length (s .row) ≡ 40
-    → p ≡ placeNamed timeslot factor index (bookings (seatOf b seat)) → firstOf (cancelRefusals b seat timeslot factor index) ≡ 0
-    → withSeat b seat (takenOut s p) ≡ cancelled b seat timeslot factor index
-unfolding cancelled
-cancelled-made b seat timeslot factor index p s sixteen es wide ep e =
-    let q = cancel-passed b seat timeslot factor index e in
-    let t = seatOf b seat in
-    let width : length (t .row) ≡ 40 = ap (λ (u : Seat). length (u .row)) (sym es) ∙ wide in
-    ap (λ (u : Seat). withSeat b seat (takenOut u p)) es
-    ∙ ap (λ (k : ℕ). withSeat b seat (takenOut t k)) ep
-    ∙ ap (λ (u : Seat). withSeat b seat u)
-    (taken-out-plan t timeslot factor index (seat-good b seat sixteen (q .valid) (q .seat-low)) width (cancel-place b seat timeslot factor index width e))
+module _ (b : Book) (seat : ℕ) (s : Seat) (es : s ≡ seatOf b seat) where
+  pub booking-ready : (x : Booking) → length (b .seats) ≡ 16 → firstOf (bookingRefusals b seat x) ≡ 0 → (seatOk s ≡ true) × (held s < 40)
+  booking-ready x sixteen e =
+      let p = booking-passed b seat x e in
+      (ap (λ (t : Seat). seatOk t) es ∙ seat-good b seat sixteen (p .valid) (p .seat-low), omega (arith, p .few, ap (λ (t : Seat). held t) es))
+
+  pub booked-made : (x : Booking) → withSeat b seat (withPlan s (insert x (bookings s))) ≡ booked b seat x
+  unfolding booked
+  booked-made x = ap (λ (t : Seat). withSeat b seat (withPlan t (insert x (bookings t)))) es
+
+  -- ---- cancel, where the place p was found among the first n
+  module _ (timeslot factor index n p : ℕ) (en : n ≡ held s) (sixteen : length (b .seats) ≡ 16) (e : firstOf (cancelRefusals b seat timeslot factor index) ≡ 0) where
+    good : seatOk s ≡ true
+    good =
+        let q = cancel-passed b seat timeslot factor index e in
+        ap (λ (t : Seat). seatOk t) es ∙ seat-good b seat sixteen (q .valid) (q .seat-low)
+
+    there : noneNamed s timeslot factor index ≡ false
+    there = ap (λ (t : Seat). noneNamed t timeslot factor index) es ∙ cancel-passed b seat timeslot factor index e .there
+
+    pub cancel-ready : leb n p ≡ noneNamed s timeslot factor index → (seatOk s ≡ true) × (p < held s)
+    cancel-ready f = (good, omega (arith, leb-false n p (f ∙ there), en))
+
+    pub cancelled-made : p ≡ placeNamed timeslot factor index (take n (s .row)) → withSeat b seat (withPlan s (removeAt p (bookings s))) ≡ cancelled b seat timeslot factor index
+    unfolding cancelled noneNamed
+    cancelled-made ep =
+        ap (λ (k : ℕ). withSeat b seat (withPlan s (removeAt k (bookings s)))) (ep ∙ ap (λ (k : ℕ). placeNamed timeslot factor index (take k (s .row))) en)
+        ∙ ap (λ (t : Seat). withSeat b seat t) (removed-plan s timeslot factor index good there)
+        ∙ ap (λ (t : Seat). withSeat b seat (withPlan t (without timeslot factor index (bookings t)))) es

@@ -13,11 +13,11 @@ use Rattle.laws.proofs.Lists.{by-cases}
 use Rattle.refusals.specs.Refusals.{firstOf, after}
 use Rattle.refusals.proofs.First.{after-refused, after-answered}
 use Rattle.bookings.specs.declared.Booking.{Booking}
-use Rattle.seats.specs.declared.seat.Seat.{Seat}
+use Rattle.seats.specs.declared.Seat.{Seat}
 use Rattle.seats.specs.Seats.{closed, held, bookings, insert, without, withPlan, blank}
-use Rattle.seats.proofs.Plans.{plan-length, with-plan-bookings}
-use Rattle.seats.proofs.Kept.{insert-length}
-use Rattle.seats.proofs.Cancelled.{without-length}
+use Rattle.plans.proofs.Plans.{plan-length, with-plan-bookings}
+use Rattle.plans.proofs.Kept.{insert-length}
+use Rattle.plans.proofs.Cancelled.{without-length}
 use Rattle.classbook.specs.declared.Book.{Book}
 use Rattle.classbook.specs.declared.Request.{Request}
 use Rattle.classbook.specs.Book.{Plan, planOf, seatOf, withSeat, beyond, common}
@@ -35,9 +35,9 @@ other-seat n b seat s other apart =
     (by-cases (eqb n 0))
 
 module _ (b : Book) (seat other : ℕ) (apart : other ≡ seat → ⊥) where
-  pub open-apart : (cell sync k long short : ℕ) → seatOf (openAnswer b seat cell sync k long short .book) other ≡ seatOf b other
+  pub open-apart : (cell case k long short : ℕ) → seatOf (openAnswer b seat cell case k long short .book) other ≡ seatOf b other
   unfolding openAnswer
-  open-apart cell sync k long short = other-seat _ b seat _ other apart
+  open-apart cell case k long short = other-seat _ b seat _ other apart
 
   pub book-apart : (x : Request) → seatOf (bookAnswer b seat x .book) other ≡ seatOf b other
   unfolding bookAnswer booked
@@ -59,7 +59,7 @@ own-seat n b seat s z low =
 
 -- the plan with another list
 abbrev pub listing : Seat → List Booking → Plan
-listing s l = record { live = s .live; cell = s .cell; sync = s .sync; k = s .k; long = s .long; short = s .short; list = l }
+listing s l = record { live = s .live; cell = s .cell; case = s .case; k = s .k; long = s .long; short = s .short; list = l }
 
 with-plan-plan : (s : Seat) (l : List Booking) → length l ≤ 40 → planOf (withPlan s l) ≡ listing s l
 unfolding planOf withPlan
@@ -67,10 +67,10 @@ with-plan-plan s l h = ap (λ (m : List Booking). listing s m) (with-plan-bookin
 
 module _ (b : Book) (sized : Sized b) (seat : ℕ) where
   -- opening stores the settings, and no bookings; a count of 0 stores 16 and 6
-  pub opened-seat : (cell sync k long short : ℕ) → openAnswer b seat cell sync k long short .refusal ≡ 0
-      → seatOf (openAnswer b seat cell sync k long short .book) seat ≡ openSeat cell sync k long short
+  pub opened-seat : (cell case k long short : ℕ) → openAnswer b seat cell case k long short .refusal ≡ 0
+      → seatOf (openAnswer b seat cell case k long short .book) seat ≡ openSeat cell case k long short
   unfolding openAnswer
-  opened-seat cell sync k long short z = own-seat _ b seat _ z (omega (arith, open-passed b seat cell sync k long short z .seat-low, sized .seats))
+  opened-seat cell case k long short z = own-seat _ b seat _ z (omega (arith, open-passed b seat cell case k long short z .seat-low, sized .seats))
 
   -- a booking accepted is in the plan, in its place, and nothing else changed
   pub booked-plan : (x : Request) → bookAnswer b seat x .refusal ≡ 0

@@ -1,4 +1,4 @@
--- What a call knows that was not refused. Cited by the proofs of the calls and by Kept.
+-- What a call knows that was not refused. Cited by the proofs of the calls, and by Made, Valid and Meaning.
 -- Assumes nothing.
 use mathlib.Core.Path.{_≡_, sym, _∙_}
 use mathlib.Core.Bool.{true, false}
@@ -14,12 +14,16 @@ use Rattle.laws.proofs.Lists.{every-at}
 use Rattle.refusals.specs.Refusals.{Refusals, firstOf}
 use Rattle.refusals.proofs.First.{numbered, first-none, append-passes, append-front}
 use Rattle.bookings.specs.declared.Booking.{Booking}
-use Rattle.bookings.specs.Bookings.{badTimeslot, badCode, formRefusals, formOf}
-use Rattle.seats.specs.Seats.{closed, held, bookings, settingsRefusals, aboveCount, offBeacon, stands, standsIn, clashesWith, seatOk}
+use Rattle.conditions.specs.Conditions.{badTimeslot, badCode}
+use Rattle.tables.specs.Tables.{formRefusals, settingsRefusals}
+use Rattle.bookings.specs.Bookings.{formOf}
+use Rattle.seats.specs.Conditions.{aboveCount, offBeacon, clashesWith}
+use Rattle.seats.specs.Seats.{closed, held, bookings, stands, standsIn, seatOk}
 use Rattle.classbook.specs.declared.Book.{Book}
 use Rattle.classbook.specs.declared.Request.{Request}
 use Rattle.classbook.specs.Book.{seatOf, common, bookOk}
-use Rattle.classbook.specs.Calls.{badBook, badSeat, notOpen, isOpen, seatFull, roomUsedUp, noneNamed, asBooking, requestRefusals, bookingRefusals, bookRefusals, cancelRefusals, seatRefusals, openRefusals, longCount, shortCount}
+use Rattle.classbook.specs.Conditions.{badBook, badSeat, notOpen, isOpen, seatFull, roomUsedUp, noneNamed}
+use Rattle.classbook.specs.Calls.{asBooking, requestRefusals, bookingRefusals, bookRefusals, cancelRefusals, seatRefusals, openRefusals, longCount, shortCount}
 
 -- a seat of a book that meets its conditions meets its own
 pub seat-good : (b : Book) (seat : ℕ) → length (b .seats) ≡ 16 → bookOk b ≡ true → seat ≤ 15 → seatOk (seatOf b seat) ≡ true
@@ -33,7 +37,7 @@ pub record BookingPassed (b : Book) (seat : ℕ) (x : Booking) : Type 0 where
   pub live : seatOf b seat .live ≡ true
   pub below : aboveCount (seatOf b seat .long) (seatOf b seat .short) x ≡ false
   pub clear : clashesWith (bookings (seatOf b seat)) x ≡ false
-  pub rules : offBeacon (seatOf b seat .sync) (seatOf b seat .k) x ≡ false
+  pub rules : offBeacon (seatOf b seat .case) (seatOf b seat .k) x ≡ false
   pub few : held (seatOf b seat) < 40
   pub room : roomUsedUp b (seatOf b seat) ≡ false
 
@@ -46,7 +50,7 @@ booking-passed b seat x e =
     let r14 = first-none 13 (notOpen b seat) _ (r13 .1) in
     let r16 = first-none 15 (aboveCount (s .long) (s .short) x) _ (r14 .1) in
     let r17 = first-none 16 (clashesWith (bookings s) x) _ (r16 .1) in
-    let r18 = first-none 17 (offBeacon (s .sync) (s .k) x) _ (r17 .1) in
+    let r18 = first-none 17 (offBeacon (s .case) (s .k) x) _ (r17 .1) in
     let r19 = first-none 18 (seatFull s) _ (r18 .1) in
     let r20 = first-none 19 (roomUsedUp b s) [] (r19 .1) in
     let no-forty = eqb-false (held s) 40 (r19 .0) in
@@ -102,21 +106,21 @@ seat-passed b seat e =
     record { valid = not-false (bookOk b) (r12 .0); seat-low = ltb-false 15 seat (r13 .0); live = not-false (seatOf b seat .live) (r14 .0) }
 
 -- ---- an opening
-settings-numbered : (cell long short sync k : ℕ) → T (numbered (settingsRefusals cell long short sync k))
+settings-numbered : (cell case k long short : ℕ) → T (numbered (settingsRefusals cell case k long short))
 unfolding settingsRefusals
-settings-numbered cell long short sync k = tt
+settings-numbered cell case k long short = tt
 
 pub record OpenPassed (b : Book) (seat : ℕ) : Type 0 where
   pub valid : bookOk b ≡ true
   pub seat-low : seat ≤ 15
   pub shut : seatOf b seat .live ≡ false
 
-pub open-passed : (b : Book) (seat cell sync k long short : ℕ) → firstOf (openRefusals b seat cell sync k long short) ≡ 0 → OpenPassed b seat
+pub open-passed : (b : Book) (seat cell case k long short : ℕ) → firstOf (openRefusals b seat cell case k long short) ≡ 0 → OpenPassed b seat
 unfolding openRefusals badBook badSeat isOpen
-open-passed b seat cell sync k long short e =
-    let t = settingsRefusals cell (longCount long) (shortCount short) sync k in
+open-passed b seat cell case k long short e =
+    let t = settingsRefusals cell case k (longCount long) (shortCount short) in
     let u : Refusals = (12, badBook b) ∷ (13, badSeat seat) ∷ (15, isOpen b seat) ∷ [] in
-    let numbers = settings-numbered cell (longCount long) (shortCount short) sync k in
+    let numbers = settings-numbered cell case k (longCount long) (shortCount short) in
     let rest = sym (append-passes t u numbers (append-front t u numbers e)) ∙ e in
     let r12 = first-none 11 (badBook b) _ rest in
     let r13 = first-none 12 (badSeat seat) _ (r12 .1) in

@@ -9,12 +9,14 @@ use lib.Dec.{T, eqb}
 use borrow.Author.Tests.{eq-eqb, ne-eqb, le-leb, lt-leb, le-ltb}
 use Rattle.refusals.specs.Refusals.{firstOf}
 use Rattle.refusals.proofs.First.{numbered, append-passes}
-use Rattle.bookings.specs.Bookings.{formRefusals}
-use Rattle.seats.specs.Seats.{held, bookings, aboveCount, offBeacon, clashesWith}
+use Rattle.tables.specs.Tables.{formRefusals}
+use Rattle.seats.specs.Conditions.{aboveCount, offBeacon, clashesWith}
+use Rattle.seats.specs.Seats.{held, bookings}
 use Rattle.classbook.specs.declared.Book.{Book}
 use Rattle.classbook.specs.declared.Request.{Request}
 use Rattle.classbook.specs.Book.{seatOf, common, bookOk}
-use Rattle.classbook.specs.Calls.{badBook, badSeat, notOpen, seatFull, roomUsedUp, asBooking, requestRefusals, bookingRefusals, bookRefusals, bookAnswer}
+use Rattle.classbook.specs.Conditions.{badBook, badSeat, notOpen, seatFull, roomUsedUp}
+use Rattle.classbook.specs.Calls.{asBooking, requestRefusals, bookingRefusals, bookRefusals, bookAnswer}
 
 -- a request that nothing stands against but perhaps room: good numbers, a good book, an open seat, none of 16 to 18
 pub record Bookable (b : Book) (seat : ℕ) (x : Request) : Type 0 where
@@ -24,7 +26,7 @@ pub record Bookable (b : Book) (seat : ℕ) (x : Request) : Type 0 where
   pub live : seatOf b seat .live ≡ true
   pub below : aboveCount (seatOf b seat .long) (seatOf b seat .short) (asBooking x) ≡ false
   pub clear : clashesWith (bookings (seatOf b seat)) (asBooking x) ≡ false
-  pub rules : offBeacon (seatOf b seat .sync) (seatOf b seat .k) (asBooking x) ≡ false
+  pub rules : offBeacon (seatOf b seat .case) (seatOf b seat .k) (asBooking x) ≡ false
 
 module _ (b : Book) (seat : ℕ) (x : Request) (fit : Bookable b seat x) where
   request-numbered : T (numbered (requestRefusals x))

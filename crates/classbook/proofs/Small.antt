@@ -1,24 +1,19 @@
 -- Numbers that were not refused are small, so that a byte holds each. Cited by the proofs of open_seat and book_code.
 -- Assumes nothing.
-use mathlib.Core.Path.{_≡_, refl}
+use mathlib.Core.Path.{_≡_}
 use mathlib.Core.Logic.{⊎-elim}
 use mathlib.Core.Bool.{Bool, true, false, cond, not, _&&_, _||_}
 use mathlib.Core.List.{[]}
-use Prim.Native.Nat.{ℕ, _*_, _≤_}
+use Prim.Native.Nat.{ℕ, _≤_}
 use native.Mathlib.Omega.{arith}
 use lib.Dec.{eqb, ltb, lit≤}
 use borrow.Author.Tests.{ltb-false, eqb-true, not-false}
 use Rattle.laws.proofs.Bools.{or-false}
-use Rattle.refusals.specs.Refusals.{firstOf, badType}
+use Rattle.conditions.specs.Conditions.{badType, isDown, badFactor, badDownFactor, badDownType, badControl, badCell, badCount, badBeacon, badBookedUser, badTimeslot, badCode}
+use Rattle.tables.specs.Tables.{formRefusals, settingsRefusals}
+use Rattle.refusals.specs.Refusals.{firstOf}
 use Rattle.refusals.proofs.First.{first-none}
-use Rattle.timeslots.specs.Conditions.{isDown, badFactor, badDownFactor, badDownType, badControl}
 use Rattle.laws.proofs.Cases.{either}
-use Rattle.midambles.specs.Calls.{badCell, badCount}
-use Rattle.midambles.specs.TrainingSequences.{codeOf}
-use Rattle.midambles.proofs.Codes.{small}
-use Rattle.beacons.specs.Beacons.{badBeacon}
-use Rattle.bookings.specs.Bookings.{badBookedUser, badTimeslot, badCode, formRefusals}
-use Rattle.seats.specs.Seats.{settingsRefusals}
 use Rattle.classbook.specs.declared.Request.{Request}
 use Rattle.classbook.specs.Calls.{requestRefusals}
 
@@ -38,22 +33,23 @@ of-five n a b c d f m ha hb hc hd hf e = ⊎-elim four (equals f hf) (either (eq
     four : (eqb n a || eqb n b || eqb n c || eqb n d) ≡ true → n ≤ m
     four e = ⊎-elim three (equals d hd) (either (eqb n a || eqb n b || eqb n c) (eqb n d) e)
 
--- a count that is not refused is at most twice the base users, of which there are at most 8
+-- a count that is not refused is at most 16
+count-by : (b : Bool) (count : ℕ) → cond b (not (eqb count 3 || eqb count 6)) (not (eqb count 8 || eqb count 16)) ≡ false → count ≤ 16
+count-by true count e = of-two count 3 6 16 (lit≤ tt) (lit≤ tt) (not-false _ e)
+count-by false count e = of-two count 8 16 16 (lit≤ tt) (lit≤ tt) (not-false _ e)
+
 count-high : (burst count : ℕ) → badCount burst count ≡ false → count ≤ 16
 unfolding badCount
-count-high burst count e =
-    let base = codeOf burst .base in
-    let s = small (codeOf burst) burst refl in
-    of-two count base (2 * base) 16 (omega (arith, s .base-high)) (omega (arith, s .base-high)) (not-false _ e)
+count-high burst count e = count-by (eqb burst 2) count e
 
-sync-high : (sync k : ℕ) → badBeacon sync k ≡ false → (sync ≤ 2) × (k ≤ 14)
+case-high : (case k : ℕ) → badBeacon case k ≡ false → (case ≤ 2) × (k ≤ 14)
 unfolding badBeacon
-sync-high sync k e =
-    let a = or-false (not (eqb sync 1 || eqb sync 2) || (eqb sync 1 && ltb 14 k)) (eqb sync 2 && ltb 6 k) e in
-    let b = or-false (not (eqb sync 1 || eqb sync 2)) (eqb sync 1 && ltb 14 k) (a .0) in
-    let one-or-two = not-false (eqb sync 1 || eqb sync 2) (b .0) in (
-      of-two sync 1 2 2 (lit≤ tt) (lit≤ tt) one-or-two,
-      ⊎-elim (λ t. ltb-false 14 k (rest (eqb sync 1) (ltb 14 k) t (b .1))) (λ t. low (ltb-false 6 k (rest (eqb sync 2) (ltb 6 k) t (a .1)))) (either (eqb sync 1) (eqb sync 2) one-or-two),
+case-high case k e =
+    let a = or-false (not (eqb case 1 || eqb case 2) || (eqb case 1 && ltb 14 k)) (eqb case 2 && ltb 6 k) e in
+    let b = or-false (not (eqb case 1 || eqb case 2)) (eqb case 1 && ltb 14 k) (a .0) in
+    let one-or-two = not-false (eqb case 1 || eqb case 2) (b .0) in (
+      of-two case 1 2 2 (lit≤ tt) (lit≤ tt) one-or-two,
+      ⊎-elim (λ t. ltb-false 14 k (rest (eqb case 1) (ltb 14 k) t (b .1))) (λ t. low (ltb-false 6 k (rest (eqb case 2) (ltb 6 k) t (a .1)))) (either (eqb case 1) (eqb case 2) one-or-two),
     )
   where
     rest : (p q : Bool) → p ≡ true → (p && q) ≡ false → q ≡ false
@@ -62,24 +58,24 @@ sync-high sync k e =
     low : k ≤ 6 → k ≤ 14
     low h = omega arith
 
-pub record SettingsSmall (cell sync k long short : ℕ) : Type 0 where
+pub record SettingsSmall (cell case k long short : ℕ) : Type 0 where
   pub cell-high : cell ≤ 127
-  pub sync-two : sync ≤ 2
+  pub case-two : case ≤ 2
   pub k-high : k ≤ 14
   pub long-high : long ≤ 16
   pub short-high : short ≤ 16
 
-pub settings-small : (cell sync k long short : ℕ) → firstOf (settingsRefusals cell long short sync k) ≡ 0 → SettingsSmall cell sync k long short
+pub settings-small : (cell case k long short : ℕ) → firstOf (settingsRefusals cell case k long short) ≡ 0 → SettingsSmall cell case k long short
 unfolding settingsRefusals badCell
-settings-small cell sync k long short e =
+settings-small cell case k long short e =
     let one = first-none 0 (badCell cell) _ e in
     let three = first-none 2 (badCount 1 long || badCount 2 short) _ (one .1) in
-    let nine = first-none 8 (badBeacon sync k) [] (three .1) in
+    let nine = first-none 8 (badBeacon case k) [] (three .1) in
     let counts = or-false (badCount 1 long) (badCount 2 short) (three .0) in
-    let beacon = sync-high sync k (nine .0) in
+    let beacon = case-high case k (nine .0) in
     record {
       cell-high = ltb-false 127 cell (one .0);
-      sync-two = beacon .0;
+      case-two = beacon .0;
       k-high = beacon .1;
       long-high = count-high 1 long (counts .0);
       short-high = count-high 2 short (counts .1);

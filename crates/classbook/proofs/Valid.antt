@@ -14,15 +14,16 @@ use Rattle.laws.proofs.Places.{every-replicate}
 use Rattle.laws.proofs.Lists.{both, by-cases, every-set, total-set}
 use Rattle.refusals.specs.Refusals.{firstOf, after}
 use Rattle.refusals.proofs.First.{after-refused, after-answered}
-use Rattle.seats.specs.declared.seat.Seat.{Seat}
+use Rattle.seats.specs.declared.Seat.{Seat}
 use Rattle.seats.specs.Seats.{closed, held, bookings, insert, without, withPlan, seatOk}
-use Rattle.seats.proofs.Plans.{plan-length, with-plan-held}
-use Rattle.seats.proofs.Kept.{insert-length, seat-with-booking, closed-ok, opened-ok}
-use Rattle.seats.proofs.Cancelled.{without-length, seat-without}
+use Rattle.plans.proofs.Plans.{plan-length, with-plan-held}
+use Rattle.plans.proofs.Kept.{insert-length, seat-with-booking, closed-ok, opened-ok}
+use Rattle.plans.proofs.Cancelled.{without-length, seat-without}
 use Rattle.classbook.specs.declared.Book.{Book}
 use Rattle.classbook.specs.declared.Request.{Request}
 use Rattle.classbook.specs.Book.{emptyBook, seatOf, withSeat, beyond, common, bookOk}
-use Rattle.classbook.specs.Calls.{roomUsedUp, openRefusals, openSeat, openAnswer, longCount, shortCount, asBooking, bookRefusals, booked, bookAnswer, cancelRefusals, cancelled, cancelAnswer, seatRefusals, closeAnswer}
+use Rattle.classbook.specs.Conditions.{roomUsedUp}
+use Rattle.classbook.specs.Calls.{openRefusals, openSeat, openAnswer, longCount, shortCount, asBooking, bookRefusals, booked, bookAnswer, cancelRefusals, cancelled, cancelAnswer, seatRefusals, closeAnswer}
 use Rattle.classbook.proofs.Passed.{seat-good, cancel-passed, seat-passed, open-passed, book-passed}
 use Rattle.classbook.proofs.Made.{settings-passed}
 
@@ -66,14 +67,14 @@ module _ (b : Book) (sized : Sized b) (ok : bookOk b ≡ true) where
   fewer : (seat : ℕ) (s : Seat) → seat ≤ 15 → seatOk s ≡ true → held s ≤ held (seatOf b seat) → bookOk (withSeat b seat s) ≡ true
   fewer seat s low good h = with-seat-ok b seat s (sized .seats) low ok good (omega (arith, room-after b seat s (sized .seats) low, room-high b ok))
 
-  pub open-kept : (seat cell sync k long short : ℕ) → bookOk (openAnswer b seat cell sync k long short .book) ≡ true
+  pub open-kept : (seat cell case k long short : ℕ) → bookOk (openAnswer b seat cell case k long short .book) ≡ true
   unfolding openAnswer openSeat
-  open-kept seat cell sync k long short = answer-ok (firstOf (openRefusals b seat cell sync k long short)) b (withSeat b seat (openSeat cell sync k long short)) ok made
+  open-kept seat cell case k long short = answer-ok (firstOf (openRefusals b seat cell case k long short)) b (withSeat b seat (openSeat cell case k long short)) ok made
     where
-      made : firstOf (openRefusals b seat cell sync k long short) ≡ 0 → bookOk (withSeat b seat (openSeat cell sync k long short)) ≡ true
+      made : firstOf (openRefusals b seat cell case k long short) ≡ 0 → bookOk (withSeat b seat (openSeat cell case k long short)) ≡ true
       made z =
-          fewer seat (openSeat cell sync k long short) (open-passed b seat cell sync k long short z .seat-low)
-          (opened-ok cell sync k (longCount long) (shortCount short) (settings-passed b seat cell sync k long short z)) (omega arith)
+          fewer seat (openSeat cell case k long short) (open-passed b seat cell case k long short z .seat-low)
+          (opened-ok cell case k (longCount long) (shortCount short) (settings-passed b seat cell case k long short z)) (omega arith)
 
   pub close-kept : (seat : ℕ) → bookOk (closeAnswer b seat .book) ≡ true
   unfolding closeAnswer closed

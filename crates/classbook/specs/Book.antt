@@ -7,7 +7,7 @@ use lib.Dec.{leb}
 use lib.ListN.{getD, set, replicate}
 use Rattle.laws.specs.Lists.{every, total}
 use Rattle.bookings.specs.declared.Booking.{Booking}
-use Rattle.seats.specs.declared.seat.Seat.{Seat}
+use Rattle.seats.specs.declared.Seat.{Seat}
 use Rattle.seats.specs.Seats.{closed, held, bookings, seatOk}
 use Rattle.classbook.specs.declared.Book.{Book}
 
@@ -15,17 +15,19 @@ use Rattle.classbook.specs.declared.Book.{Book}
 unfoldable pub emptyBook : Book
 emptyBook = record { seats = replicate 16 closed }
 
--- a seat by its number, and a book with another seat in its place; there is none above 15
+-- a seat by its number; above 15 a closed one
 unfoldable pub seatOf : Book → ℕ → Seat
 seatOf b seat = getD (b .seats) seat closed
 
+-- a book with another seat in the place of one; there is none above 15
 unfoldable pub withSeat : Book → ℕ → Seat → Book
 withSeat b seat s = record { seats = set (b .seats) seat s }
 
--- "the sum over all seats of what each holds beyond 10"
+-- "what each holds beyond 10"
 abbrev pub beyond : Seat → ℕ
 beyond s = held s - 10
 
+-- "the sum over all seats" of that
 unfoldable pub common : Book → ℕ
 common b = total beyond (b .seats)
 
@@ -37,12 +39,13 @@ bookOk b = every seatOk (b .seats) && leb (common b) 80
 pub record Plan : Type 0 where
   pub live : Bool
   pub cell : ℕ
-  pub sync : ℕ
+  pub case : ℕ
   pub k : ℕ
   pub long : ℕ
   pub short : ℕ
   pub list : List Booking
 
+-- the plan of a seat
 unfoldable pub planOf : Seat → Plan
 planOf s =
-    record { live = s .live; cell = s .cell; sync = s .sync; k = s .k; long = s .long; short = s .short; list = bookings s }
+    record { live = s .live; cell = s .cell; case = s .case; k = s .k; long = s .long; short = s .short; list = bookings s }

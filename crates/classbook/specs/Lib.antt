@@ -1,2 +1,4 @@
 pub mod Book
+pub mod Conditions
 pub mod Calls
+pub mod Inside

@@ -1,14 +1,15 @@
 // The class book (document 01, "The class book"): sixteen seats in one value, which goes into each call and comes back with its answer.
 // Any book may be handed in: each call first decides whether it meets its conditions.
-mod tests;
+mod walk;
 
 ghost use mathlib.Core.Path.{_≡_};
-ghost use Prim.Native.Nat.{_-_, _≤_, _<_, min};
-ghost use Rattle.classbook.specs.Book.{emptyBook, seatOf, withSeat, common, bookOk};
-ghost use Rattle.classbook.specs.Calls.{longCount, shortCount, openSeat, openAnswer, asBooking, bookAnswer, cancelAnswer, closeAnswer, listAnswer};
+ghost use Prim.Native.Nat.{_≤_};
+ghost use Rattle.classbook.specs.Book.{emptyBook, withSeat, bookOk};
+ghost use Rattle.classbook.specs.Calls.{longCount, shortCount, openAnswer, withBook, asBooking, bookAnswer, cancelAnswer, closeAnswer, listWith, listAnswer};
+ghost use Rattle.classbook.specs.Inside.{bookingAnswer};
 use bookings::Booking;
-use seats::seat::Seat;
-use timeslots::Direction;
+use conditions::Direction;
+use seats::Seat;
 
 pub struct Book {
     pub seats: [Seat; 16],
@@ -43,111 +44,46 @@ pub struct ListAnswer {
 pub fn empty_book() -> Book
     ensures { λ r. ⌜ r ≡ emptyBook ⌝ }
 {
-    let none = seats::seat::closed_seat();
+    let none = seats::closed_seat();
     let all = [none; 16];
     Book { seats: all }
-}
-
-// What a seat with this count holds beyond its first ten.
-fn beyond_ten(count: u8) -> usize
-    ensures { λ r. ⌜ (r ≡ min count 40 - 10) × (r ≤ 30) ⌝ }
-{
-    let n = seats::seat::held_by(count);
-    if n < 10 { 0 } else { n - 10 }
-}
-
-// What one walk through a book finds: whether it meets its conditions, the common room in use, and a seat.
-pub struct Checked {
-    pub ok: bool,
-    pub used: usize,
-    pub seat: Seat,
-}
-
-// Walks through a book once and brings a seat; above 15 a closed one.
-fn check(b: Book, seat: u32) -> Checked
-    ensures { λ r. ⌜ (r .ok ≡ bookOk b) × (r .used ≡ common b) × (r .seat ≡ seatOf b seat) ⌝ }
-{
-    let mut i: usize = 0;
-    let mut ok = true;
-    let mut used = 0;
-    while i < 16 {
-        let s = b.seats[i];
-        let one = seats::seat::seat_ok(s);
-        ok = ok & one;
-        used = used + beyond_ten(s.count);
-        i += 1;
-    }
-    let fit = ok & (used <= 80);
-    if seat < 16 {
-        let j = seat as usize;
-        let s = b.seats[j];
-        return Checked {
-            ok: fit,
-            used,
-            seat: s,
-        };
-    }
-    let none = seats::seat::closed_seat();
-    Checked {
-        ok: fit,
-        used,
-        seat: none,
-    }
 }
 
 // Whether a book meets its conditions.
 pub fn book_ok(b: Book) -> bool
     ensures { λ r. ⌜ r ≡ bookOk b ⌝ }
 {
-    let t = check(b, 0);
+    let t = walk::check(b, 0);
     t.ok
 }
 
-// A seat by its number; above 15 a closed one.
-pub fn seat_at(b: Book, seat: u32) -> Seat
-    ensures { λ r. ⌜ r ≡ seatOf b seat ⌝ }
-{
-    if seat < 16 {
-        let i = seat as usize;
-        return b.seats[i];
-    }
-    seats::seat::closed_seat()
-}
-
-// The answer of a call that exchanges a seat and is not refused; above 15 the book stays.
-fn with_seat(b: Book, seat: u32, s: Seat) -> BookAnswer
-    ensures { λ r. ⌜ r ≡ record { refusal = 0; book = withSeat b seat s } ⌝ }
+// The answer of a call whose first refusal is n: the book as it was, or with another seat in the place of this one. Above 15 the book stays.
+fn exchanged(n: u32, b: Book, seat: u32, s: Seat) -> BookAnswer
+    ensures { λ r. ⌜ r ≡ withBook n b (withSeat b seat s) ⌝ }
 {
     let mut made = b;
-    if seat < 16 {
+    if (n == 0) & (seat < 16) {
         let i = seat as usize;
         made.seats[i] = s;
     }
     BookAnswer {
-        refusal: 0,
+        refusal: n,
         book: made,
     }
 }
 
-// A seat as it is opened. Inside this crate only: the calls have tested its settings before.
-fn opened(cell: u32, sync: u32, k: u32, long: u32, short: u32) -> Seat
-    requires { ⌜ (cell ≤ 255) × (sync ≤ 255) × (k ≤ 255) × (longCount long ≤ 255) × (shortCount short ≤ 255) ⌝ }
-    ensures { λ r. ⌜ r ≡ openSeat cell sync k long short ⌝ }
+// "a count of 0 stands for 16 (long)"
+fn long_count(long: u32) -> u32
+    ensures { λ r. ⌜ r ≡ longCount long ⌝ }
 {
-    let none = seats::seat::closed_seat();
-    let row = none.row;
-    let l = tests::long_count(long);
-    let s = tests::short_count(short);
-    Seat {
-        live: true,
-        cell: cell as u8,
-        sync: sync as u8,
-        k: k as u8,
-        long: l as u8,
-        short: s as u8,
-        count: 0,
-        row,
-    }
+    if long == 0 { 16 } else { long }
+}
+
+// "or 6 (short)"
+fn short_count(short: u32) -> u32
+    ensures { λ r. ⌜ r ≡ shortCount short ⌝ }
+{
+    if short == 0 { 6 } else { short }
 }
 
 // Opens a seat with a cell parameter, a synchronisation case and its k, and a long and a short count. Refusals: 1, 3, 9, 12, 13, 15.
@@ -155,22 +91,25 @@ pub fn open_seat(
     b: Book,
     seat: u32,
     cell: u32,
-    sync: u32,
+    case: u32,
     k: u32,
     long: u32,
     short: u32,
 ) -> BookAnswer
-    ensures { λ r. ⌜ r ≡ openAnswer b seat cell sync k long short ⌝ }
+    ensures { λ r. ⌜ r ≡ openAnswer b seat cell case k long short ⌝ }
 {
-    let n = tests::open_refusal(b, seat, cell, sync, k, long, short);
+    let l = long_count(long);
+    let s = short_count(short);
+    let t = walk::check(b, seat);
+    let n = book_tables::open_refusal(t.ok, seat, t.seat.live, cell, case, k, l, s);
     if n != 0 {
         return BookAnswer {
             refusal: n,
             book: b,
         };
     }
-    let s = opened(cell, sync, k, long, short);
-    with_seat(b, seat, s)
+    let new = seats::opened_seat(cell, case, k, l, s);
+    exchanged(0, b, seat, new)
 }
 
 // A request as it is kept. Inside this crate only: the calls have tested its numbers before.
@@ -191,11 +130,38 @@ fn kept(x: Request) -> Booking
     }
 }
 
+// Books it: the request's own numbers have been tested.
+fn book_kept(b: Book, seat: u32, x: Booking) -> BookAnswer
+    ensures { λ r. ⌜ r ≡ bookingAnswer b seat x ⌝ }
+{
+    let t = walk::check(b, seat);
+    let s = t.seat;
+    let n = book_tables::booking_refusal(t.ok, t.used, seat, s, x);
+    if n != 0 {
+        return BookAnswer {
+            refusal: n,
+            book: b,
+        };
+    }
+    let more = plans::with_booking(s, x);
+    exchanged(0, b, seat, more)
+}
+
 // Books a code in a timeslot for a seat. Refusals: 2, 4 to 8, 12 to 14, 16 to 20.
 pub fn book_code(b: Book, seat: u32, x: Request) -> BookAnswer
     ensures { λ r. ⌜ r ≡ bookAnswer b seat x ⌝ }
 {
-    let n = tests::request_refusal(x);
+    let direction = x.direction;
+    let n = tables::form_refusal(
+        x.timeslot,
+        direction,
+        x.burst,
+        x.factor,
+        x.index,
+        x.user,
+        x.tfci,
+        x.tpc,
+    );
     if n != 0 {
         return BookAnswer {
             refusal: n,
@@ -203,75 +169,67 @@ pub fn book_code(b: Book, seat: u32, x: Request) -> BookAnswer
         };
     }
     let y = kept(x);
-    let t = check(b, seat);
-    let n = tests::booking_refusal(b, seat, y, t);
-    if n != 0 {
-        return BookAnswer {
-            refusal: n,
-            book: b,
-        };
-    }
-    let s = t.seat;
-    let row = s.row;
-    let size = seats::seat::places(row);
-    let more = seats::seat::with_booking(s, y);
-    with_seat(b, seat, more)
+    book_kept(b, seat, y)
 }
 
 // Cancels the booking of a seat that is named by timeslot and code. Refusals: 5, 6, 12, 13, 14, 21.
 pub fn cancel_code(b: Book, seat: u32, timeslot: u32, factor: u32, index: u32) -> BookAnswer
     ensures { λ r. ⌜ r ≡ cancelAnswer b seat timeslot factor index ⌝ }
 {
-    let n = tests::cancel_refusal(b, seat, timeslot, factor, index);
+    let t = walk::check(b, seat);
+    let s = t.seat;
+    let row = s.row;
+    let held = seats::held_by(s.count);
+    let p = plans::place_named(row, held, timeslot, factor, index);
+    let n = book_tables::cancel_refusal(t.ok, seat, s.live, timeslot, factor, index, held <= p);
     if n != 0 {
         return BookAnswer {
             refusal: n,
             book: b,
         };
     }
-    let p = tests::named_place(b, seat, timeslot, factor, index);
-    let s = seat_at(b, seat);
-    let row = s.row;
-    let size = seats::seat::places(row);
-    let t = seats::seat::without_at(s, p);
-    with_seat(b, seat, t)
+    let less = plans::without_at(s, p);
+    exchanged(0, b, seat, less)
 }
 
 // Closes a seat: its bookings and its settings go. Refusals: 12, 13, 14.
 pub fn close_seat(b: Book, seat: u32) -> BookAnswer
     ensures { λ r. ⌜ r ≡ closeAnswer b seat ⌝ }
 {
-    let n = tests::seat_refusal(b, seat);
+    let t = walk::check(b, seat);
+    let n = book_tables::seat_refusal(t.ok, seat, t.seat.live);
+    let none = seats::closed_seat();
+    exchanged(n, b, seat, none)
+}
+
+// The list of a call whose first refusal is n: nothing, or the seat's row.
+fn listed(n: u32, s: Seat) -> ListAnswer
+    ensures { λ r. ⌜ r ≡ listWith n s ⌝ }
+{
     if n != 0 {
-        return BookAnswer {
+        let none = seats::closed_seat();
+        let row = none.row;
+        return ListAnswer {
             refusal: n,
-            book: b,
+            count: 0,
+            row,
         };
     }
-    let none = seats::seat::closed_seat();
-    with_seat(b, seat, none)
+    let row = s.row;
+    let held = seats::held_by(s.count);
+    ListAnswer {
+        refusal: 0,
+        count: held as u32,
+        row,
+    }
 }
 
 // Lists a seat's bookings by value. Refusals: 12, 13, 14.
 pub fn list_seat(b: Book, seat: u32) -> ListAnswer
     ensures { λ r. ⌜ r ≡ listAnswer b seat ⌝ }
 {
-    let n = tests::seat_refusal(b, seat);
-    if n != 0 {
-        let none = seats::seat::closed_seat();
-        let blank = none.row;
-        return ListAnswer {
-            refusal: n,
-            count: 0,
-            row: blank,
-        };
-    }
-    let s = seat_at(b, seat);
-    let row = s.row;
-    let held = seats::seat::held_by(s.count);
-    ListAnswer {
-        refusal: 0,
-        count: held as u32,
-        row,
-    }
+    let t = walk::check(b, seat);
+    let n = book_tables::seat_refusal(t.ok, seat, t.seat.live);
+    let s = t.seat;
+    listed(n, s)
 }

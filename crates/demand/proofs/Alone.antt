@@ -11,12 +11,12 @@ use borrow.Author.Tests.{eqb-true, eqb-false, ne-eqb}
 use Rattle.laws.proofs.Lists.{by-cases}
 use Rattle.refusals.specs.Refusals.{firstOf, after}
 use Rattle.refusals.proofs.First.{after-refused, after-answered}
-use Rattle.seats.specs.declared.seat.Seat.{Seat}
+use Rattle.seats.specs.declared.Seat.{Seat}
 use Rattle.seats.specs.Seats.{closed}
 use Rattle.classbook.specs.declared.Book.{Book}
 use Rattle.classbook.specs.Book.{emptyBook, seatOf, withSeat, beyond, common}
-use Rattle.classbook.specs.Calls.{badBook, roomUsedUp}
-use Rattle.demand.specs.Lesson.{Call, Turn, reply, numberOf, next, run, Line, log, turns}
+use Rattle.classbook.specs.Conditions.{badBook, roomUsedUp}
+use Rattle.demand.specs.Lesson.{Call, Turn, reply, numberOf, next, runThrough, Line, log, turns}
 use Rattle.demand.specs.Demand.{stays, kept}
 use Rattle.demand.proofs.Seats.{replicate-at, set-alike, total-one}
 use Rattle.demand.proofs.Own.{table, number-own, told, reply-own, made, next-own}
@@ -119,7 +119,7 @@ module _ (i : ℕ) where
   -- ---- all turns
   pub record Same (b a : Book) (ts : List Turn) : Type 0 where
     pub answers : log a (turns (kept i (log b ts))) ≡ kept i (log b ts)
-    pub seat : seatOf (run a (turns (kept i (log b ts)))) i ≡ seatOf (run b ts) i
+    pub seat : seatOf (runThrough a (turns (kept i (log b ts)))) i ≡ seatOf (runThrough b ts) i
 
   abbrev line : Book → Turn → Line
   line b t = record { turn = t; reply = reply b (t .seat) (t .call) }
@@ -143,12 +143,12 @@ module _ (i : ℕ) where
 
   module _ (b a : Book) (t : Turn) (ts : List Turn) where
     strikes : stays i (line b t) ≡ false → Same (next b (t .seat) (t .call)) a ts → Same b a (t ∷ ts)
-    unfolding run log turns kept
+    unfolding runThrough log turns kept
     strikes f r = record { answers = rw f (r .answers); seat = rw f (r .seat) }
 
     keeps : stays i (line b t) ≡ true → reply a (t .seat) (t .call) ≡ reply b (t .seat) (t .call) → Same (next b (t .seat) (t .call)) (next a (t .seat) (t .call)) ts
         → Same b a (t ∷ ts)
-    unfolding run log turns kept
+    unfolding runThrough log turns kept
     keeps f e r = record { answers = rw (f, e, r .answers); seat = rw f (r .seat) }
 
     -- one turn, from what holds of the later ones
@@ -173,7 +173,7 @@ module _ (i : ℕ) where
                 keeps (own-stays b t e f) (rw at-i (same-reply b a h (t .call) no-20)) (later _ _ (rw at-i (own-turn b a h (t .call) no-20)))
 
   alone : (ts : List Turn) (b a : Book) → Beside b a → Same b a ts
-  unfolding run log turns kept
+  unfolding runThrough log turns kept
   alone [] b a h = record { answers = refl; seat = h .same }
   alone (t ∷ ts) b a h = first-turn b a t ts (alone ts) h
 

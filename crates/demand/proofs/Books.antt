@@ -15,17 +15,17 @@ use Rattle.laws.proofs.Bools.{and-true}
 use Rattle.laws.proofs.Lists.{by-cases}
 use Rattle.refusals.specs.Refusals.{after}
 use Rattle.refusals.proofs.First.{after-refused, after-answered}
-use Rattle.seats.specs.declared.seat.Seat.{Seat}
+use Rattle.seats.specs.declared.Seat.{Seat}
 use Rattle.seats.specs.Seats.{closed, held, bookings, insert, without, seatOk}
-use Rattle.seats.proofs.Plans.{plan-length, with-plan-row, sound}
-use Rattle.seats.proofs.Kept.{insert-length, closed-ok}
-use Rattle.seats.proofs.Cancelled.{without-length}
+use Rattle.plans.proofs.Plans.{plan-length, with-plan-row, sound}
+use Rattle.plans.proofs.Kept.{insert-length, closed-ok}
+use Rattle.plans.proofs.Cancelled.{without-length}
 use Rattle.classbook.specs.declared.Book.{Book}
 use Rattle.classbook.specs.Book.{emptyBook, seatOf, withSeat, planOf, common, bookOk}
 use Rattle.classbook.specs.Calls.{openSeat, asBooking, bookAnswer}
 use Rattle.classbook.proofs.Passed.{book-passed}
 use Rattle.classbook.proofs.Valid.{Sized, empty-ok, open-kept, book-kept, cancel-kept, close-kept}
-use Rattle.demand.specs.Lesson.{Call, opens, books, cancels, closes, lists, Turn, reply, numberOf, next, run}
+use Rattle.demand.specs.Lesson.{Call, opens, books, cancels, closes, lists, Turn, reply, numberOf, next, runThrough}
 use Rattle.demand.specs.Demand.{holds}
 use Rattle.demand.proofs.Seats.{replicate-at, set-shows, every-place}
 use Rattle.demand.proofs.Own.{made, next-own}
@@ -80,7 +80,7 @@ exchange-wide n b i s h new j =
 -- and that it has
 made-wide : (b : Book) (i : ℕ) (c : Call) → Good b → numberOf (reply b i c) ≡ 0 → length (made (seatOf b i) c .row) ≡ 40
 unfolding reply numberOf openSeat closed bookAnswer
-made-wide b i (opens cell sync k long short) g z = refl
+made-wide b i (opens cell case k long short) g z = refl
 made-wide b i (books x) g z =
     let s = seatOf b i in
     let few = book-passed b i x z .booking .few in
@@ -99,7 +99,7 @@ next-ok b i c g = go c
     sized = record { seats = g .sixteen; rows = λ j low. g .wide j }
 
     go : (c : Call) → bookOk (next b i c) ≡ true
-    go (opens cell sync k long short) = open-kept b sized (g .ok) i cell sync k long short
+    go (opens cell case k long short) = open-kept b sized (g .ok) i cell case k long short
     go (books x) = book-kept b sized (g .ok) i x
     go (cancels timeslot factor index) = cancel-kept b sized (g .ok) i timeslot factor index
     go closes = close-kept b sized (g .ok) i
@@ -115,8 +115,8 @@ next-good b i c g =
       wide = λ j. ap (λ (d : Book). length (seatOf d j .row)) (next-own b i c) ∙ exchange-wide n b i s (g .wide) (made-wide b i c g) j;
     }
 
-pub run-good : (ts : List Turn) (b : Book) → Good b → Good (run b ts)
-unfolding run
+pub run-good : (ts : List Turn) (b : Book) → Good b → Good (runThrough b ts)
+unfolding runThrough
 run-good [] b g = g
 run-good (t ∷ ts) b g = run-good ts (next b (t .seat) (t .call)) (next-good b (t .seat) (t .call) g)
 

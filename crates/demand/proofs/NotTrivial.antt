@@ -8,7 +8,7 @@ use Rattle.refusals.specs.Refusals.{answered, _leaving_, firstOf, after}
 use Rattle.refusals.proofs.First.{answer-answered, after-answered}
 use Rattle.bookings.specs.declared.Booking.{Booking}
 use Rattle.seats.specs.Seats.{bookings, insert}
-use Rattle.seats.proofs.Kept.{insert-length}
+use Rattle.plans.proofs.Kept.{insert-length}
 use Rattle.classbook.specs.declared.Request.{Request}
 use Rattle.classbook.specs.Book.{Plan, planOf, seatOf}
 use Rattle.classbook.specs.Calls.{asBooking}

@@ -13,12 +13,15 @@ use Rattle.laws.proofs.Lists.{by-cases}
 use Rattle.refusals.specs.Refusals.{Refusals, _leaving_, firstOf, answer, after}
 use Rattle.refusals.proofs.First.{answer-refused, answer-answered, after-refused, after-answered}
 use Rattle.bookings.specs.declared.Booking.{Booking}
-use Rattle.seats.specs.declared.seat.Seat.{Seat}
-use Rattle.bookings.specs.Bookings.{badTimeslot, badCode}
-use Rattle.seats.specs.Seats.{closed, bookings, settingsRefusals, aboveCount, clashesWith, offBeacon, insert, without, withPlan}
+use Rattle.seats.specs.declared.Seat.{Seat}
+use Rattle.conditions.specs.Conditions.{badTimeslot, badCode}
+use Rattle.tables.specs.Tables.{settingsRefusals}
+use Rattle.seats.specs.Conditions.{aboveCount, clashesWith, offBeacon}
+use Rattle.seats.specs.Seats.{closed, bookings, insert, without, withPlan}
 use Rattle.classbook.specs.declared.Book.{Book}
 use Rattle.classbook.specs.Book.{seatOf, withSeat}
-use Rattle.classbook.specs.Calls.{badBook, badSeat, notOpen, isOpen, seatFull, roomUsedUp, noneNamed, longCount, shortCount, openSeat, openRefusals, openAnswer, asBooking, requestRefusals, bookingRefusals, bookRefusals, booked, bookAnswer, cancelRefusals, cancelled, cancelAnswer, seatRefusals, closeAnswer}
+use Rattle.classbook.specs.Conditions.{badBook, badSeat, notOpen, isOpen, seatFull, roomUsedUp, noneNamed}
+use Rattle.classbook.specs.Calls.{longCount, shortCount, openSeat, openRefusals, openAnswer, asBooking, requestRefusals, bookingRefusals, bookRefusals, booked, bookAnswer, cancelRefusals, cancelled, cancelAnswer, seatRefusals, closeAnswer}
 use Rattle.listing.specs.Listing.{fewRecords, listRefusals, listOutcome}
 use Rattle.demand.specs.Lesson.{Call, opens, books, cancels, closes, lists, Reply, number, listed, reply, numberOf, next}
 
@@ -28,10 +31,10 @@ use Rattle.demand.specs.Lesson.{Call, opens, books, cancels, closes, lis
 abbrev pub bookTable : Bool → Seat → ℕ → Booking → Refusals
 bookTable bad s i x =
     (12, bad) ∷ (13, badSeat i) ∷ (14, not (s .live)) ∷ (16, aboveCount (s .long) (s .short) x) ∷ (17, clashesWith (bookings s) x) ∷
-    (18, offBeacon (s .sync) (s .k) x) ∷ (19, seatFull s) ∷ []
+    (18, offBeacon (s .case) (s .k) x) ∷ (19, seatFull s) ∷ []
 
 abbrev pub table : Bool → Bool → Seat → ℕ → Call → Refusals
-table bad full s i (opens cell sync k long short) = settingsRefusals cell (longCount long) (shortCount short) sync k ++ (12, bad) ∷ (13, badSeat i) ∷ (15, s .live) ∷ []
+table bad full s i (opens cell case k long short) = settingsRefusals cell case k (longCount long) (shortCount short) ++ (12, bad) ∷ (13, badSeat i) ∷ (15, s .live) ∷ []
 table bad full s i (books x) = requestRefusals x ++ (bookTable bad s i (asBooking x) ++ (20, full) ∷ [])
 table bad full s i (cancels timeslot factor index) =
     (5, badTimeslot timeslot) ∷ (6, badCode factor index) ∷ (12, bad) ∷ (13, badSeat i) ∷ (14, not (s .live)) ∷ (21, noneNamed s timeslot factor index) ∷ []
@@ -57,7 +60,7 @@ list-number b i lent =
 -- what a call is refused with
 pub number-own : (b : Book) (i : ℕ) (c : Call) → numberOf (reply b i c) ≡ firstOf (table (badBook b) (roomUsedUp b (seatOf b i)) (seatOf b i) i c)
 unfolding reply numberOf openAnswer openRefusals isOpen bookAnswer bookRefusals bookingRefusals notOpen cancelAnswer cancelRefusals closeAnswer seatRefusals listOutcome listRefusals
-number-own b i (opens cell sync k long short) = refl
+number-own b i (opens cell case k long short) = refl
 number-own b i (books x) = refl
 number-own b i (cancels timeslot factor index) = refl
 number-own b i closes = refl
@@ -65,7 +68,7 @@ number-own b i (lists lent) = list-number b i lent
 
 -- ---- the reply to a call that is refused n, or not refused where n is 0
 abbrev pub told : ℕ → Seat → Call → Reply
-told n s (opens cell sync k long short) = number n
+told n s (opens cell case k long short) = number n
 told n s (books x) = number n
 told n s (cancels timeslot factor index) = number n
 told n s closes = number n
@@ -73,7 +76,7 @@ told n s (lists lent) = listed (answer n (length (bookings s)) leaving after n l
 
 pub reply-own : (b : Book) (i : ℕ) (c : Call) → reply b i c ≡ told (numberOf (reply b i c)) (seatOf b i) c
 unfolding reply numberOf listOutcome
-reply-own b i (opens cell sync k long short) = refl
+reply-own b i (opens cell case k long short) = refl
 reply-own b i (books x) = refl
 reply-own b i (cancels timeslot factor index) = refl
 reply-own b i closes = refl
@@ -81,7 +84,7 @@ reply-own b i (lists lent) = ap (λ (n : ℕ). told n (seatOf b i) (lists lent))
 
 -- ---- the seat that a call makes, where it is not refused
 abbrev pub made : Seat → Call → Seat
-made s (opens cell sync k long short) = openSeat cell sync k long short
+made s (opens cell case k long short) = openSeat cell case k long short
 made s (books x) = withPlan s (insert (asBooking x) (bookings s))
 made s (cancels timeslot factor index) = withPlan s (without timeslot factor index (bookings s))
 made s closes = closed
@@ -102,7 +105,7 @@ unmoved n b i =
 -- a call leaves the book as it is, or with the caller's seat exchanged
 pub next-own : (b : Book) (i : ℕ) (c : Call) → next b i c ≡ after (numberOf (reply b i c)) b (withSeat b i (made (seatOf b i) c))
 unfolding next reply numberOf openAnswer bookAnswer booked cancelAnswer cancelled closeAnswer
-next-own b i (opens cell sync k long short) = refl
+next-own b i (opens cell case k long short) = refl
 next-own b i (books x) = refl
 next-own b i (cancels timeslot factor index) = refl
 next-own b i closes = refl

@@ -11,12 +11,13 @@ use Rattle.laws.specs.Lists.{every}
 use Rattle.laws.proofs.Bools.{true-false}
 use Rattle.laws.proofs.Lists.{hd, tl}
 use Rattle.refusals.specs.Refusals.{Refusals, firstOf}
-use Rattle.seats.specs.declared.seat.Seat.{Seat}
-use Rattle.bookings.specs.Bookings.{formRefusals}
-use Rattle.seats.specs.Seats.{held, settingsRefusals}
+use Rattle.seats.specs.declared.Seat.{Seat}
+use Rattle.tables.specs.Tables.{formRefusals, settingsRefusals}
+use Rattle.seats.specs.Seats.{held}
 use Rattle.classbook.specs.declared.Book.{Book}
 use Rattle.classbook.specs.Book.{seatOf}
-use Rattle.classbook.specs.Calls.{badBook, seatFull, roomUsedUp, asBooking, requestRefusals}
+use Rattle.classbook.specs.Conditions.{badBook, seatFull, roomUsedUp}
+use Rattle.classbook.specs.Calls.{asBooking, requestRefusals}
 use Rattle.demand.specs.Lesson.{Call, opens, books, cancels, closes, lists, reply, numberOf}
 use Rattle.demand.proofs.Own.{bookTable, table, number-own}
 
@@ -31,7 +32,7 @@ last-row ((n, false) ∷ t) m full h = last-row t m full h
 -- so of all refusals the common room decides 20 only
 pub room-only-20 : (bad full : Bool) (s : Seat) (i : ℕ) (c : Call) → (firstOf (table bad full s i c) ≡ 20 → ⊥)
     → firstOf (table bad full s i c) ≡ firstOf (table bad false s i c)
-room-only-20 bad full s i (opens cell sync k long short) h = refl
+room-only-20 bad full s i (opens cell case k long short) h = refl
 room-only-20 bad full s i (books x) h =
     split full ∙ last-row (requestRefusals x ++ bookTable bad s i (asBooking x)) 20 full (λ e. h (split full ∙ e)) ∙ sym (split false)
   where
@@ -55,7 +56,7 @@ lacks-first m ((n, true) ∷ t) l e =
 -- with fewer than 10 neither 19 nor 20 holds
 lacks-19 : (bad full : Bool) (s : Seat) (i : ℕ) (c : Call) → seatFull s ≡ false → lacks 19 (table bad full s i c) ≡ true
 unfolding every settingsRefusals requestRefusals formRefusals
-lacks-19 bad full s i (opens cell sync k long short) h = refl
+lacks-19 bad full s i (opens cell case k long short) h = refl
 lacks-19 bad full s i (books x) h = rw h refl
 lacks-19 bad full s i (cancels timeslot factor index) h = refl
 lacks-19 bad full s i closes h = refl
@@ -63,7 +64,7 @@ lacks-19 bad full s i (lists lent) h = refl
 
 lacks-20 : (bad : Bool) (s : Seat) (i : ℕ) (c : Call) → lacks 20 (table bad false s i c) ≡ true
 unfolding every settingsRefusals requestRefusals formRefusals
-lacks-20 bad s i (opens cell sync k long short) = refl
+lacks-20 bad s i (opens cell case k long short) = refl
 lacks-20 bad s i (books x) = refl
 lacks-20 bad s i (cancels timeslot factor index) = refl
 lacks-20 bad s i closes = refl

@@ -8,7 +8,7 @@ use lib.Dec.{eqb}
 use lib.ListN.{length}
 use Rattle.classbook.specs.declared.Book.{Book}
 use Rattle.classbook.specs.Book.{emptyBook, seatOf, planOf, common}
-use Rattle.demand.specs.Lesson.{Call, Turn, reply, numberOf, run, Line, log, turns}
+use Rattle.demand.specs.Lesson.{Call, Turn, reply, numberOf, runThrough, Line, log, turns}
 
 -- how many bookings a learner holds: as many as the seat's plan lists
 abbrev pub holds : Book → ℕ → ℕ
@@ -16,7 +16,7 @@ holds b i = length (planOf (seatOf b i) .list)
 
 -- the book after a lesson
 abbrev pub bookAfter : List Turn → Book
-bookAfter ts = run emptyBook ts
+bookAfter ts = runThrough emptyBook ts
 
 -- (a) "nobody holds more than 40 bookings"; and the seat's own count is what its plan lists, so no booking is out of sight
 unfoldable pub AtMostForty : List Turn → Type 0

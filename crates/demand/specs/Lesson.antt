@@ -11,7 +11,7 @@ use Rattle.listing.specs.Listing.{listOutcome}
 
 -- "Calls: open ..; book ..; cancel by timeslot and code ..; close ..; list": what may be asked, with every argument but the seat; a list is lent records
 pub data Call : Type 0 where
-  opens : (cell sync k long short : ℕ) → Call
+  opens : (cell case k long short : ℕ) → Call
   books : (x : Request) → Call
   cancels : (timeslot factor index : ℕ) → Call
   closes : Call
@@ -28,7 +28,7 @@ pub data Reply : Type 0 where
   listed : Outcome ℕ (List Booking) → Reply
 
 unfoldable pub reply : Book → ℕ → Call → Reply
-reply b seat (opens cell sync k long short) = number (openAnswer b seat cell sync k long short .refusal)
+reply b seat (opens cell case k long short) = number (openAnswer b seat cell case k long short .refusal)
 reply b seat (books x) = number (bookAnswer b seat x .refusal)
 reply b seat (cancels timeslot factor index) = number (cancelAnswer b seat timeslot factor index .refusal)
 reply b seat closes = number (closeAnswer b seat .refusal)
@@ -42,16 +42,16 @@ numberOf (listed (answered count leaving records)) = 0
 
 -- the book that a call leaves; a list leaves it as it is
 unfoldable pub next : Book → ℕ → Call → Book
-next b seat (opens cell sync k long short) = openAnswer b seat cell sync k long short .book
+next b seat (opens cell case k long short) = openAnswer b seat cell case k long short .book
 next b seat (books x) = bookAnswer b seat x .book
 next b seat (cancels timeslot factor index) = cancelAnswer b seat timeslot factor index .book
 next b seat closes = closeAnswer b seat .book
 next b seat (lists lent) = b
 
 -- the book after all turns of a lesson
-unfoldable pub run : Book → List Turn → Book
-run b [] = b
-run b (t ∷ ts) = run (next b (t .seat) (t .call)) ts
+unfoldable pub runThrough : Book → List Turn → Book
+runThrough b [] = b
+runThrough b (t ∷ ts) = runThrough (next b (t .seat) (t .call)) ts
 
 -- the log of a lesson: each turn with its reply
 pub record Line : Type 0 where

@@ -3,32 +3,37 @@
 use mathlib.Core.Path.{_≡_, refl}
 use mathlib.Core.List.{map}
 use Rattle.laws.specs.Runs.{run}
-use Rattle.laws.specs.Lists.{every, pairs, total}
-use Rattle.refusals.specs.Refusals.{firstOf, answer, after, badType}
-use Rattle.rows.specs.LongText.{longText}
-use Rattle.rows.specs.Rows.{longRows, bitAt}
-use Rattle.midambles.specs.TrainingSequences.{codeOf, rowsOf, turned, basic, element, shiftOf, chipOf, chipsOf}
-use Rattle.midambles.specs.Calls.{badCell, badCount, badUser, badChip, tooShort, userRefusals, chipRefusals, midambleRefusals, chipAnswer, midambleOutcome}
-use Rattle.timeslots.specs.Conditions.{isDown, badFactor, badDownFactor, badDownType, badControl}
-use Rattle.timeslots.specs.Timeslots.{fields, fieldLength, controlChips, chipsOf as chipsOfBits, bitsOf, partLengths, start, span, spans, sevenParts}
-use Rattle.timeslots.specs.Calls.{partsRefusals, partsAnswer}
+use Rattle.laws.specs.Lists.{member, every, pairs, total}
+use Rattle.conditions.specs.Conditions.{badType, badCell, badCount, badUser, badMidambleChip, tooShort, isDown, badFactor, badDownFactor, badDownType, badControl, badPich, badFrames, badNumber, badBeacon, badBookedUser, badTimeslot, badCode}
+use Rattle.tables.specs.Tables.{userRefusals, partsRefusals, pichRefusals, formRefusals, settingsRefusals}
+use Rattle.refusals.specs.Refusals.{firstOf, answer, after}
+use Rattle.code_text.specs.LongText.{longText}
+use Rattle.code_text.specs.Rows.{longRows, bitAt}
+use Rattle.codes.specs.Codes.{codeOf, shiftOf}
+use Rattle.elements.specs.Elements.{rowsOf, turned, basic, element}
+use Rattle.midambles.specs.TrainingSequences.{chipOf, chipsOf}
+use Rattle.midambles.specs.Calls.{chipRefusals, midambleRefusals, chipAnswer, midambleOutcome}
+use Rattle.timeslots.specs.Timeslots.{fields, fieldLength, order, controlChips, chipsOfBits, bitsOfChips, tfciHalf, tpcChips, spans, partLength, partLengths, sevenParts}
+use Rattle.timeslots.specs.Calls.{partsAnswer}
 use Rattle.paging.specs.Paging.{carryingOf, halfOf, placeOf}
-use Rattle.paging.specs.Calls.{badPich, pichRefusals, badFrames, badNumber, indicatorRefusals, indicatorAnswer}
-use Rattle.beacons.specs.Beacons.{beaconsOf, badBeacon, isBeacon}
+use Rattle.paging.specs.Calls.{indicatorRefusals, indicatorAnswer}
+use Rattle.beacons.specs.Beacons.{beaconsOf, isBeacon}
 use Rattle.beacons.specs.Calls.{beaconRefusals, beaconAnswer}
-use Rattle.bookings.specs.Bookings.{badBookedUser, badTimeslot, badCode, formRefusals, formOf, leavesOf, firstLeaf, overlaps, sameDirection, mixed, clash, comes, fine, beaconRules, breaksBeacon}
-use Rattle.seats.specs.Seats.{isBlank, closed, settingsRefusals, goodSettings, aboveCount, offBeacon, stands, clashesWith, isBare, seatOk, rank, insert, withPlan}
+use Rattle.bookings.specs.Bookings.{formOf, leavesOf, firstLeaf, overlaps, sameDirection, mixed, clash, comes, fine, beaconRules, breaksBeacon}
+use Rattle.seats.specs.Conditions.{aboveCount, clashesWith, offBeacon}
+use Rattle.seats.specs.Seats.{isBlank, closed, goodSettings, stands, isBare, seatOk, rank, insert, withPlan}
 use Rattle.classbook.specs.Book.{emptyBook, seatOf, withSeat, common, bookOk}
-use Rattle.classbook.specs.Calls.{badBook, badSeat, notOpen, isOpen, seatFull, roomUsedUp, longCount, shortCount, openRefusals, openSeat, openAnswer, asBooking, requestRefusals, bookingRefusals, bookRefusals, booked, bookAnswer, seatRefusals}
+use Rattle.classbook.specs.Conditions.{badBook, badSeat, notOpen, isOpen, seatFull, roomUsedUp}
+use Rattle.classbook.specs.Calls.{longCount, shortCount, openRefusals, openSeat, openAnswer, asBooking, requestRefusals, bookingRefusals, bookRefusals, booked, bookAnswer, seatRefusals}
 use Rattle.listing.specs.Listing.{fewRecords, listRefusals, listOutcome}
 use Rattle.figures.specs.Figures.{Row, figures, opening, firstBooking, secondBooking}
 
 pub starred-figures : map (λ (r : Row). r .0) figures ≡ map (λ (r : Row). r .1) figures
-unfolding figures opening firstBooking secondBooking run every pairs total firstOf answer after badType
+unfolding figures opening firstBooking secondBooking run member every pairs total firstOf answer after badType
     longText longRows bitAt codeOf rowsOf turned basic element shiftOf chipOf chipsOf
-    badCell badCount badUser badChip tooShort userRefusals chipRefusals midambleRefusals chipAnswer midambleOutcome
+    badCell badCount badUser badMidambleChip tooShort userRefusals chipRefusals midambleRefusals chipAnswer midambleOutcome
     isDown badFactor badDownFactor badDownType badControl
-    fields fieldLength controlChips chipsOfBits bitsOf partLengths start span spans sevenParts partsRefusals partsAnswer
+    fields fieldLength order controlChips chipsOfBits bitsOfChips tfciHalf tpcChips spans partLength partLengths sevenParts partsRefusals partsAnswer
     carryingOf halfOf placeOf badPich pichRefusals badFrames badNumber indicatorRefusals indicatorAnswer
     beaconsOf badBeacon isBeacon beaconRefusals beaconAnswer
     badBookedUser badTimeslot badCode formRefusals formOf leavesOf firstLeaf overlaps sameDirection mixed clash comes fine beaconRules breaksBeacon

@@ -3,10 +3,10 @@
 use mathlib.Core.List.{List, [], _∷_, _++_, map}
 use Prim.Native.Nat.{ℕ}
 use lib.ListN.{getD, take, drop, replicate}
-use Rattle.timeslots.specs.declared.Direction.{Direction}
-use Rattle.timeslots.specs.declared.Direction.the-variants.{Up, Down}
-use Rattle.rows.specs.Rows.{longRows}
-use Rattle.midambles.specs.TrainingSequences.{codeOf, shiftOf}
+use Rattle.conditions.specs.declared.Direction.{Direction}
+use Rattle.conditions.specs.declared.Direction.the-variants.{Up, Down}
+use Rattle.code_text.specs.Rows.{longRows}
+use Rattle.codes.specs.Codes.{codeOf, shiftOf}
 use Rattle.midambles.specs.Calls.{chipAnswer, midambleOutcome}
 use Rattle.timeslots.specs.Calls.{partsAnswer}
 use Rattle.paging.specs.Calls.{indicatorAnswer}
@@ -40,8 +40,8 @@ abbrev pub shifts : ℕ → List ℕ → List ℕ
 shifts burst users = map (λ (k : ℕ). shiftOf (codeOf burst) k) users
 
 -- lent memory, more than a midamble needs
-abbrev pub bytes : List ℕ
-bytes = replicate 600 0
+abbrev pub sixHundred : List ℕ
+sixHundred = replicate 600 0
 
 -- downlink type 1, factor 16, no control: a code's index and a user, in a timeslot
 abbrev pub request : ℕ → ℕ → ℕ → Request
@@ -80,10 +80,10 @@ figures =
     (whether (chipAnswer 0 1 8 0 1), refusal 4) ∷
     (whether (chipAnswer 0 1 16 0 1), refusal 4) ∷
     (whether (chipAnswer 0 1 16 16 1), isAnswered) ∷
-    (whether (reply (midambleOutcome 0 1 8 9 bytes)), refusal 4) ∷
-    (whether (reply (midambleOutcome 0 1 8 0 bytes)), refusal 4) ∷
-    (whether (reply (midambleOutcome 0 1 16 0 bytes)), refusal 4) ∷
-    (whether (reply (midambleOutcome 0 1 16 16 bytes)), isAnswered) ∷
+    (whether (reply (midambleOutcome 0 1 8 9 sixHundred)), refusal 4) ∷
+    (whether (reply (midambleOutcome 0 1 8 0 sixHundred)), refusal 4) ∷
+    (whether (reply (midambleOutcome 0 1 16 0 sixHundred)), refusal 4) ∷
+    (whether (reply (midambleOutcome 0 1 16 16 sixHundred)), isAnswered) ∷
     -- "Uplink type 1, factor 8, TFCI 16, TPC 2 starts at 0, 912, 976, 1488, 1504, 1568, 2464; data bits 228 and 224."
     (shown starts (partsAnswer 1 Up 8 16 2), given (0 ∷ 912 ∷ 976 ∷ 1488 ∷ 1504 ∷ 1568 ∷ 2464 ∷ [])) ∷
     (shown dataBits (partsAnswer 1 Up 8 16 2), given (228 ∷ 224 ∷ [])) ∷

@@ -4,8 +4,8 @@ use mathlib.Core.List.{List, [], _∷_, _++_, map}
 use Prim.Native.Nat.{ℕ, zero, suc, _+_, _-_}
 use lib.ListN.{getD, take}
 use Rattle.refusals.specs.Refusals.{Answer, refused, answered, Outcome, _leaving_}
-use Rattle.timeslots.specs.declared.Direction.{Direction}
-use Rattle.timeslots.specs.declared.Direction.the-variants.{Up, Down}
+use Rattle.conditions.specs.declared.Direction.{Direction}
+use Rattle.conditions.specs.declared.Direction.the-variants.{Up, Down}
 use Rattle.timeslots.specs.Timeslots.{SevenParts}
 use Rattle.paging.specs.Paging.{Place, place, Bits, _bitsFrom_}
 use Rattle.bookings.specs.declared.Booking.{Booking}

@@ -12,7 +12,7 @@ use borrow.Author.Tests.{eq-eqb, ne-eqb, lt-ltb, le-ltb, ltb-false}
 use Rattle.refusals.specs.Refusals.{Answer, refused, answered, Outcome, _leaving_, firstOf, answer, after}
 use Rattle.refusals.proofs.First.{answer-refused, answer-answered, after-refused, after-answered}
 use Rattle.bookings.specs.declared.Booking.{Booking}
-use Rattle.seats.specs.declared.seat.Seat.{Seat}
+use Rattle.seats.specs.declared.Seat.{Seat}
 use Rattle.seats.specs.Seats.{blank, held}
 use Rattle.classbook.specs.declared.Book.{Book}
 use Rattle.classbook.specs.declared.ListAnswer.{ListAnswer}
@@ -20,7 +20,7 @@ use Rattle.classbook.specs.Book.{seatOf}
 use Rattle.classbook.specs.Calls.{seatRefusals, listAnswer}
 use Rattle.listing.specs.declared.ListReply.{ListReply}
 use Rattle.listing.specs.declared.ListReply.the-variants.{Refused, Listed}
-use Rattle.listing.specs.Listing.{fewRecords, listRefusals, listOutcome, saidOfList}
+use Rattle.listing.specs.Listing.{fewRecords, listRefusals, listOutcome, saidList}
 use Rattle.listing.specs.Inside.{selectionOf, replyOf}
 
 -- a list by value
@@ -78,24 +78,24 @@ refuses n = refused n
 
 -- what `list` replies and leaves of ys, where it selects x
 abbrev done : ListAnswer → List Booking → Outcome ℕ (List Booking)
-done x ys = saidOfList (replyOf x) leaving (take (x .count) (x .row) ++ drop (x .count) ys)
+done x ys = saidList (replyOf x) leaving (take (x .count) (x .row) ++ drop (x .count) ys)
 
 -- refused: the reply is the refusal, and nothing is written
 done-refused : (x : ListAnswer) (ys made : List Booking) (n v : ℕ) → x .refusal ≡ n → (n ≡ 0 → ⊥) → x .count ≡ 0 → done x ys ≡ (answer n v leaving after n ys made)
-unfolding saidOfList
+unfolding saidList
 done-refused x ys made n v e h z =
     both _ _ _ _
-    (ap saidOfList (sym (reply-refused x (λ y. h (sym e ∙ y)))) ∙ ap refuses e ∙ sym (answer-refused n v h))
+    (ap saidList (sym (reply-refused x (λ y. h (sym e ∙ y)))) ∙ ap refuses e ∙ sym (answer-refused n v h))
     (ap (λ (k : ℕ). take k (x .row) ++ drop k ys) z ∙ sym (after-refused n ys made h))
 
 -- given: the reply is how many, and the first k of a row are written
 done-given : (x : ListAnswer) (row ys : List Booking) (n k : ℕ) → x .refusal ≡ n → n ≡ 0 → x .count ≡ k → x .row ≡ row → k ≤ length row
     → done x ys ≡ (answer n (length (take k row)) leaving after n ys (take k row ++ drop (length (take k row)) ys))
-unfolding saidOfList
+unfolding saidList
 done-given x row ys n k e z c r small =
     let as-many : length (take k row) ≡ k = length-take-le k row small in
     both _ _ _ _
-    (ap saidOfList (sym (reply-listed x (e ∙ z))) ∙ ap (λ (j : ℕ). answered j) (c ∙ sym as-many) ∙ sym (answer-answered n (length (take k row)) z))
+    (ap saidList (sym (reply-listed x (e ∙ z))) ∙ ap (λ (j : ℕ). answered j) (c ∙ sym as-many) ∙ sym (answer-answered n (length (take k row)) z))
     (ap (λ (j : ℕ). take j (x .row) ++ drop j ys) c ∙ ap (λ (t : List Booking). take k t ++ drop k ys) r
     ∙ ap (λ (j : ℕ). take k row ++ drop j ys) (sym as-many) ∙ sym (after-answered n ys (take k row ++ drop (length (take k row)) ys) z))
 
@@ -134,8 +134,8 @@ module _ (b : Book) (seat : ℕ) (ys : List Booking) where
 
   -- what `list` has come to at its end is what document 01 asks of it
   pub listed : (x : ListAnswer) (n : ℕ) (zs : List Booking) (r : ListReply) → x ≡ l → length (x .row) ≡ 40 → n ≡ x .count → zs ≡ take n (x .row) ++ drop n ys → r ≡ replyOf x
-      → (saidOfList r leaving zs) ≡ listOutcome b seat ys
+      → (saidList r leaving zs) ≡ listOutcome b seat ys
   listed x n zs r e f c w a =
-      both _ _ _ _ (ap saidOfList a) (w ∙ ap (λ (k : ℕ). take k (x .row) ++ drop k ys) c)
+      both _ _ _ _ (ap saidList a) (w ∙ ap (λ (k : ℕ). take k (x .row) ++ drop k ys) c)
       ∙ ap (λ (t : ListAnswer). done t ys) e
       ∙ list-by (cond few 11 m) refl (sym (ap (λ (t : ListAnswer). length (t .row)) e) ∙ f)

@@ -30,6 +30,6 @@ listOutcome b seat out =
     answer n (length l) leaving after n out (l ++ drop (length l) out)
 
 -- what each case of an answer says
-unfoldable pub saidOfList : ListReply → Answer ℕ
-saidOfList (reply.Refused n) = refused n
-saidOfList (reply.Listed n) = answered n
+unfoldable pub saidList : ListReply → Answer ℕ
+saidList (reply.Refused n) = refused n
+saidList (reply.Listed n) = answered n

@@ -5,7 +5,7 @@ ghost use Prim.Native.Nat.{_<_, _≤_};
 ghost use lib.ListN.{length, take, drop, getD};
 ghost use Rattle.seats.specs.Seats.{blank};
 ghost use Rattle.refusals.specs.Refusals.{_leaving_};
-ghost use Rattle.listing.specs.Listing.{listOutcome, saidOfList};
+ghost use Rattle.listing.specs.Listing.{listOutcome, saidList};
 ghost use Rattle.listing.specs.Inside.{selectionOf, replyOf};
 use bookings::Booking;
 use classbook::Book;
@@ -75,7 +75,7 @@ fn fill(out: &mut [Booking], l: ListAnswer, n: usize)
 
 // Lists a seat's bookings into lent records. Refusals: 11, 12, 13, 14.
 pub fn list(b: Book, seat: u32, out: &mut [Booking]) -> ListReply
-    ensures { λ r. ⌜ saidOfList r leaving now (out .exit) ≡ listOutcome b seat (now (out .entry)) ⌝ }
+    ensures { λ r. ⌜ saidList r leaving now (out .exit) ≡ listOutcome b seat (now (out .entry)) ⌝ }
 {
     let size = out.len();
     let l = selected(b, seat, size);

@@ -8,7 +8,7 @@ use native.Mathlib.Omega.{arith}
 use lib.Dec.{eqb}
 use borrow.Author.Tests.{eqb-true, eqb-false, eq-eqb, ne-eqb}
 use Rattle.laws.proofs.Lists.{by-cases}
-use Rattle.timeslots.specs.Conditions.{isDown}
+use Rattle.conditions.specs.Conditions.{isDown}
 use Rattle.bookings.specs.declared.Booking.{Booking}
 use Rattle.seats.specs.Seats.{isBlank}
 

@@ -1,7 +1,2 @@
 pub mod Blanks
 pub mod Tested
-pub mod Named
-pub mod Carried
-pub mod Plans
-pub mod Kept
-pub mod Cancelled

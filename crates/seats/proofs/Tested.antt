@@ -14,15 +14,17 @@ use Rattle.laws.proofs.Lists.{by-cases}
 use Rattle.laws.proofs.Neighbours.{chain-pairs}
 use Rattle.refusals.specs.Refusals.{firstOf}
 use Rattle.bookings.specs.declared.Booking.{Booking}
-use Rattle.seats.specs.declared.seat.Seat.{Seat}
+use Rattle.seats.specs.declared.Seat.{Seat}
 use Rattle.bookings.specs.Bookings.{formOf, fine}
-use Rattle.seats.specs.Seats.{isBlank, held, bookings, settingsRefusals, goodSettings, aboveCount, offBeacon, stands, standsIn, isBare, seatOk}
+use Rattle.tables.specs.Tables.{settingsRefusals}
+use Rattle.seats.specs.Conditions.{aboveCount, offBeacon}
+use Rattle.seats.specs.Seats.{isBlank, held, bookings, goodSettings, stands, standsIn, isBare, seatOk}
 use Rattle.bookings.proofs.Formed.{Formed, formed}
 use Rattle.bookings.proofs.Order.{fine-trans}
 
-pub stands-formed : (long short sync k : ℕ) (x : Booking) → stands long short sync k x ≡ true → Formed x
+pub stands-formed : (case k long short : ℕ) (x : Booking) → stands case k long short x ≡ true → Formed x
 unfolding stands
-stands-formed long short sync k x e = formed x (eqb-true _ _ (and-true (eqb (formOf x) 0) (not (aboveCount long short x) && not (offBeacon sync k x)) e .0))
+stands-formed case k long short x e = formed x (eqb-true _ _ (and-true (eqb (formOf x) 0) (not (aboveCount long short x) && not (offBeacon case k x)) e .0))
 
 module _ (s : Seat) (l : List Booking) (b : Bool) where
   abbrev as-paired : Type 0
@@ -32,7 +34,7 @@ module _ (s : Seat) (l : List Booking) (b : Bool) where
   neighbours = ⊎-elim standing fallen (by-cases (every (standsIn s) l))
     where
       in-form : (x : Booking) → standsIn s x ≡ true → Formed x
-      in-form x = stands-formed (s .long) (s .short) (s .sync) (s .k) x
+      in-form x = stands-formed (s .case) (s .k) (s .long) (s .short) x
 
       standing : every (standsIn s) l ≡ true → as-paired
       standing t =
@@ -44,12 +46,12 @@ module _ (s : Seat) (l : List Booking) (b : Bool) where
 
 -- n, bad and fit are what the tests gave
 pub seat-tested : (s : Seat) (n bad : ℕ) (fit : Bool)
-    → n ≡ held s → bad ≡ firstOf (settingsRefusals (s .cell) (s .long) (s .short) (s .sync) (s .k))
+    → n ≡ held s → bad ≡ firstOf (settingsRefusals (s .cell) (s .case) (s .k) (s .long) (s .short))
     → fit ≡ (every (standsIn s) (take n (s .row)) && (chain fine (take n (s .row)) && every isBlank (drop n (s .row))))
     → ((isBare s || (s .live && eqb bad 0)) && (leb (s .count) 40 && fit)) ≡ seatOk s
 unfolding seatOk goodSettings
 seat-tested s n bad fit en eb ef =
     let inner : fit ≡ (every (standsIn s) (bookings s) && (chain fine (bookings s) && every isBlank (drop (held s) (s .row)))) = rw (ef, en) in
     rw eb
-    (ap (λ (t : Bool). (isBare s || (s .live && eqb (firstOf (settingsRefusals (s .cell) (s .long) (s .short) (s .sync) (s .k))) 0)) && (leb (s .count) 40 && t))
+    (ap (λ (t : Bool). (isBare s || (s .live && eqb (firstOf (settingsRefusals (s .cell) (s .case) (s .k) (s .long) (s .short))) 0)) && (leb (s .count) 40 && t))
     (inner ∙ neighbours s (bookings s) (every isBlank (drop (held s) (s .row)))))

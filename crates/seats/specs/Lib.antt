@@ -1,2 +1,2 @@
+pub mod Conditions
 pub mod Seats
-pub mod Inside

@@ -1,68 +1,93 @@
 -- `classbook::cancel_code` meets its contract: refused, or the seat is without the booking that was named.
 -- Assumes nothing.
 use mathlib.Core.Path.{_≡_, sym, ap, _∙_}
-use native.Mathlib.Omega.{arith}
-use lib.ListN.{length}
-use Rattle.seats.specs.declared.seat.Seat.{Seat}
-use Rattle.seats.specs.Seats.{held}
-use Rattle.classbook.specs.Book.{seatOf, withSeat}
-use Rattle.classbook.specs.Calls.{cancelAnswer}
+use lib.Dec.{leb}
+use Rattle.seats.specs.declared.Seat.{Seat}
+use Rattle.classbook.specs.Book.{withSeat}
+use Rattle.classbook.specs.Conditions.{noneNamed}
+use Rattle.classbook.specs.Calls.{withBook, cancelAnswer}
 use Rattle.classbook.proofs.Sized.{sixteen}
-use Rattle.classbook.proofs.Answered.{refused-by, made-by}
-use Rattle.classbook.proofs.Made.{cancel-place, cancelled-made}
+use Rattle.classbook.proofs.Answers.{refused-by, made-by}
+use Rattle.classbook.proofs.Tables.{cancel-table}
+use Rattle.classbook.proofs.Made.{one-named, cancel-ready, cancelled-made}
 use borrow.Author.Needs.{needs}
 use Rattle.classbook.proofs.cancel_code.Statement.{statement}
 use Rattle.classbook.proofs.cancel_code.Tie as tie
+
+check-requires : tie.Need-check-requires
+check-requires c κs = search needs
+
+held-by-requires : tie.Need-held-by-requires
+held-by-requires c κs = search needs
+
+place-named-requires : tie.Need-place-named-requires
+place-named-requires c κs = search needs
 
 cancel-refusal-requires : tie.Need-cancel-refusal-requires
 cancel-refusal-requires c κs = search needs
 
 returns : tie.Need-returns
 unfolding cancelAnswer
-returns c = refused-by _ _ _ _ (c .before .cancel-refusal .ensures) (c .if1 .taken)
-
-named-place-requires : tie.Need-named-place-requires
-named-place-requires c κs = search needs
-
-seat-at-requires : tie.Need-seat-at-requires
-seat-at-requires c κs = search needs
-
-places-requires : tie.Need-places-requires
-places-requires c κs = search needs
+returns c =
+    let r = c .before in
+    let p = r .before in
+    let h = p .before in
+    let t = h .before .before .before in
+    let start = t .before in
+    let a = start .args in
+    let e = t .check .ensures in
+    let found : leb (h .held-by .result) (p .place-named .result) ≡ noneNamed (t .check .result .seat) (a .timeslot) (a .factor) (a .index)
+    = one-named (t .check .result .seat) (a .timeslot) (a .factor) (a .index) _ _ (h .held-by .ensures .0) (p .place-named .ensures .1) in
+    let number = cancel-table (a .b) (a .seat) _ _ _ (e .0) (e .2) (a .timeslot) (a .factor) (a .index) _ found (r .cancel-refusal .ensures) in
+    refused-by _ _ _ _ number (c .if1 .taken)
 
 without-at-requires : tie.Need-without-at-requires
 without-at-requires c κs =
-    let t = c .before .before in
-    let e = t .before .before in
-    let a = e .before .before .args in
-    let wide : length (seatOf (a .b) (a .seat) .row) ≡ 40 = ap (λ (s : Seat). length (s .row)) (sym (t .seat-at .ensures)) ∙ c .places .ensures .1 in
-    let there = cancel-place (a .b) (a .seat) (a .timeslot) (a .factor) (a .index) wide (sym (e .before .cancel-refusal .ensures) ∙ e .if1 .left) in
-    omega (arith, there, t .before .named-place .ensures, ap (λ (s : Seat). held s) (t .seat-at .ensures))
+    let r = c .before in
+    let p = r .before in
+    let h = p .before in
+    let t = h .before .before .before in
+    let start = t .before in
+    let a = start .args in
+    let e = t .check .ensures in
+    let found : leb (h .held-by .result) (p .place-named .result) ≡ noneNamed (t .check .result .seat) (a .timeslot) (a .factor) (a .index)
+    = one-named (t .check .result .seat) (a .timeslot) (a .factor) (a .index) _ _ (h .held-by .ensures .0) (p .place-named .ensures .1) in
+    let number = cancel-table (a .b) (a .seat) _ _ _ (e .0) (e .2) (a .timeslot) (a .factor) (a .index) _ found (r .cancel-refusal .ensures) in
+    cancel-ready (a .b) (a .seat) _ (e .2) (a .timeslot) (a .factor) (a .index) _ _ (h .held-by .ensures .0)
+    (sixteen (a .b) (start .good .0 .1 .1 .0 .1 .0 .1)) (sym number ∙ c .if1 .left) found
 
-with-seat-requires : tie.Need-with-seat-requires
-with-seat-requires c κs = search needs
+exchanged-requires : tie.Need-exchanged-requires
+exchanged-requires c κs = search needs
 
 returns-2 : tie.Need-returns-2
 unfolding cancelAnswer
 returns-2 c =
-    let w = c .before in
-    let t = w .before .before .before in
-    let e = t .before .before in
-    let start = e .before .before in
-    let h = sixteen (start .args .b) (start .good .0 .1 .1 .0 .1 .0 .1) in
-    c .with-seat .ensures ∙ made-by _ _ _ _ _ (e .before .cancel-refusal .ensures) (e .if1 .left)
-    (ap (λ (s : Seat). withSeat (start .args .b) (start .args .seat) s) (w .without-at .ensures)
-    ∙ cancelled-made _ _ _ _ _ _ _ h (t .seat-at .ensures) (w .before .places .ensures .1) (t .before .named-place .ensures) (sym (e .before .cancel-refusal .ensures) ∙ e .if1 .left))
+    let r = c .before .before .before in
+    let p = r .before in
+    let h = p .before in
+    let t = h .before .before .before in
+    let start = t .before in
+    let a = start .args in
+    let e = t .check .ensures in
+    let found : leb (h .held-by .result) (p .place-named .result) ≡ noneNamed (t .check .result .seat) (a .timeslot) (a .factor) (a .index)
+    = one-named (t .check .result .seat) (a .timeslot) (a .factor) (a .index) _ _ (h .held-by .ensures .0) (p .place-named .ensures .1) in
+    let number = cancel-table (a .b) (a .seat) _ _ _ (e .0) (e .2) (a .timeslot) (a .factor) (a .index) _ found (r .cancel-refusal .ensures) in
+    let z = c .before .before .if1 .left in
+    _∙_ {b = withBook 0 (a .b) (withSeat (a .b) (a .seat) (c .before .without-at .result))} (c .exchanged .ensures)
+    (made-by _ _ _ _ _ number z
+    (ap (λ (s : Seat). withSeat (a .b) (a .seat) s) (c .before .without-at .ensures)
+    ∙ cancelled-made (a .b) (a .seat) _ (e .2) (a .timeslot) (a .factor) (a .index) _ _ (h .held-by .ensures .0)
+    (sixteen (a .b) (start .good .0 .1 .1 .0 .1 .0 .1)) (sym number ∙ z) (p .place-named .ensures .0)))
 
 pub cancel-code-spec : {M : Type 1} → statement M
 cancel-code-spec =
     tie.close
     (tie.spec
+    check-requires
+    held-by-requires
+    place-named-requires
     cancel-refusal-requires
     returns
-    named-place-requires
-    seat-at-requires
-    places-requires
     without-at-requires
-    with-seat-requires
+    exchanged-requires
     returns-2)

@@ -2,7 +2,7 @@
 -- Assumes nothing.
 use mathlib.Core.Path.{ap}
 use lib.ListN.{replicate}
-use Rattle.seats.specs.declared.seat.Seat.{Seat}
+use Rattle.seats.specs.declared.Seat.{Seat}
 use Rattle.classbook.specs.Book.{emptyBook}
 use borrow.Author.Needs.{needs}
 use Rattle.classbook.proofs.empty_book.Statement.{statement}

@@ -49,7 +49,7 @@ use Rattle.classbook.proofs.Book.Laws as B′
 use Rattle.classbook.proofs.ListAnswer as L
 use Rattle.classbook.proofs.ListAnswer.Laws as L′
 use Rattle.listing.specs.declared.ListReply.{ListReply}
-use Rattle.listing.specs.Listing.{listOutcome, saidOfList}
+use Rattle.listing.specs.Listing.{listOutcome, saidList}
 use Rattle.listing.specs.Inside.{selectionOf, replyOf}
 use Rattle.listing.proofs.ListReply as E
 use Rattle.listing.proofs.ListReply.Laws as E′
@@ -115,7 +115,7 @@ module _ {M : Type 1} (𝓤 : URA M) (H : Heap 𝓤) (A : Atoms 𝓤) (W : Given
       nothing ! $ owned ! usize (Is usize) (uint-makes 𝓤 H A W w64) n _ is′ $ fjoin ! $ owned ! L.the-row (Is L.the-row) ((LL.makes L.the-type L′.the-plain) 𝓤 H A) l _ is $ fjoin ! $
       move ! (1 ∷ 0 ∷ []) $ fjoin ! $ done !
 
-  exits : (r : ListReply) (w : Val) (zs : List Booking) → Is E.the-row r (w ∷ []) → length zs ≡ length ys → (saidOfList r leaving zs) ≡ listOutcome bk seat ys
+  exits : (r : ListReply) (w : Val) (zs : List Booking) → Is E.the-row r (w ∷ []) → length zs ≡ length ys → (saidList r leaving zs) ≡ listOutcome bk seat ys
       → ent 𝓤 (sep 𝓤 (sep 𝓤 (A .lft κ q) (sem 𝓤 H A ftrue)) (sem 𝓤 H A (finally R.the-row γ zs))) (Post w)
   exits r w zs is e said =
       qed W ((‵ (flft κ q) ⊛ ‵ ftrue) ∷ ‵ (finally R.the-row γ zs) ∷ []) ∵

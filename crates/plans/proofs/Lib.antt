@@ -1,0 +1,6 @@
+pub mod Sized
+pub mod Named
+pub mod Carried
+pub mod Plans
+pub mod Kept
+pub mod Cancelled

@@ -1,0 +1,22 @@
+-- Document 01, "Refusal numbers": the conditions of the refusals 16 to 18, on a booking and what its seat has. Cited by specs/Seats.antt and by the crate classbook.
+-- Assumes nothing.
+use mathlib.Core.Bool.{Bool, cond, not, _&&_}
+use mathlib.Core.List.{List}
+use Prim.Native.Nat.{ℕ}
+use lib.Dec.{eqb, ltb}
+use Rattle.laws.specs.Lists.{every}
+use Rattle.beacons.specs.Beacons.{isBeacon}
+use Rattle.bookings.specs.declared.Booking.{Booking}
+use Rattle.bookings.specs.Bookings.{clash, breaksBeacon}
+
+-- 16: "user above this seat's count", the short count for type 2
+unfoldable pub aboveCount : ℕ → ℕ → Booking → Bool
+aboveCount long short x = ltb (cond (eqb (x .burst) 2) short long) (x .user)
+
+-- 17: "clash inside this seat's own cell", whose bookings are l
+unfoldable pub clashesWith : List Booking → Booking → Bool
+clashesWith l x = not (every (λ y. not (clash x y)) l)
+
+-- 18: "beacon rule"
+unfoldable pub offBeacon : ℕ → ℕ → Booking → Bool
+offBeacon case k x = isBeacon case k (x .timeslot) && breaksBeacon x

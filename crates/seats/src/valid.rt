@@ -1,0 +1,95 @@
+// Whether a seat meets its conditions.
+ghost use mathlib.Core.Path.{_≡_};
+ghost use mathlib.Core.Bool.{_&&_};
+ghost use Prim.Native.Nat.{_≤_};
+ghost use lib.ListN.{take, drop};
+ghost use Rattle.laws.specs.Lists.{every, chain};
+ghost use Rattle.bookings.specs.Bookings.{fine};
+ghost use Rattle.seats.specs.Seats.{isBlank, stands, seatOk};
+use crate::Seat;
+use bookings::Booking;
+
+// All its numbers are 0, tested as one number of as many bytes as a booking has in memory.
+fn blank_place(x: Booking) -> bool
+    ensures { λ r. ⌜ r ≡ isBlank x ⌝ }
+{
+    let d = x.direction;
+    let down = conditions::is_down(d);
+    let control = (x.tfci as u64) + (x.tpc as u64) * 256;
+    let code = (x.factor as u64)
+        + ((x.index as u64) + ((x.user as u64) + control * 256) * 256) * 256;
+    let all = (x.timeslot as u64) + ((x.burst as u64) + code * 256) * 65536;
+    !down & (all == 0)
+}
+
+// Whether a booking may stand in a seat of these settings, the others left out.
+fn may_stand(case: u8, k: u8, long: u8, short: u8, x: Booking) -> bool
+    ensures { λ r. ⌜ r ≡ stands case k long short x ⌝ }
+{
+    let form = bookings::form_of(x);
+    if form != 0 {
+        return false;
+    }
+    let above = crate::rules::above_count(long, short, x);
+    if above {
+        return false;
+    }
+    let off = crate::rules::off_beacon(case, k, x);
+    !off
+}
+
+// Whether of the first n each may stand, each may stand before its neighbour, and every place from n on is blank. Neighbours are enough for all pairs among
+// bookings that may stand: bookings/proofs/Order.antt. Three loops in one function: each function that takes places of a row copies the row first.
+fn row_ok(row: [Booking; 40], n: usize, case: u8, k: u8, long: u8, short: u8) -> bool
+    requires { ⌜ n ≤ 40 ⌝ }
+    ensures { λ r. ⌜ r ≡ (every (stands case k long short) (take n row) && (chain fine (take n row) && every isBlank (drop n row))) ⌝ }
+{
+    let mut i: usize = 0;
+    while i < n {
+        let x = row[i];
+        let fit = may_stand(case, k, long, short, x);
+        if !fit {
+            return false;
+        }
+        i += 1;
+    }
+    let mut j: usize = 0;
+    while j + 1 < n {
+        let x = row[j];
+        let y = row[j + 1];
+        let fit = bookings::fine_pair(x, y);
+        if !fit {
+            return false;
+        }
+        j += 1;
+    }
+    let mut p = n;
+    let mut ok = true;
+    while p < 40 {
+        let x = row[p];
+        let b = blank_place(x);
+        ok = ok & b;
+        p += 1;
+    }
+    ok
+}
+
+// Whether a seat meets its conditions.
+pub fn seat_ok(s: Seat) -> bool
+    ensures { λ r. ⌜ r ≡ seatOk s ⌝ }
+{
+    let row = s.row;
+    let n = crate::held_by(s.count);
+    let bare = !s.live
+        & ((s.cell == 0)
+            & ((s.case == 0) & ((s.k == 0) & ((s.long == 0) & ((s.short == 0) & (s.count == 0))))));
+    let bad = tables::settings_refusal(
+        s.cell as u32,
+        s.case as u32,
+        s.k as u32,
+        s.long as u32,
+        s.short as u32,
+    );
+    let fit = row_ok(row, n, s.case, s.k, s.long, s.short);
+    (bare | (s.live & (bad == 0))) & ((s.count <= 40) & fit)
+}

@@ -1,32 +1,48 @@
--- A direction that is neither up nor down is refused with 6, at 6's place in the order: document 01's tables, with 6 also where the direction is neither.
--- Cited by no proof: it is for the reader of the promises. Assumes nothing.
-use mathlib.Core.Path.{_≡_, refl}
-use mathlib.Core.Bool.{Bool, true, false, _||_}
+-- A direction that is neither up nor down: the calls of the library, asked with a factor that is none, are refused as the tables over C say, with 6 at 6's place.
+-- Cited by the proofs of `mq_parts` and `mq_at`. Assumes nothing.
+use mathlib.Core.Path.{_≡_, refl, sym, ap, _∙_}
+use mathlib.Core.Bool.{Bool, true, false, cond}
 use mathlib.Core.List.{[], _∷_, _++_}
 use Prim.Native.Nat.{ℕ}
-use Rattle.refusals.specs.Refusals.{Refusals, firstOf, badType}
-use Rattle.timeslots.specs.Conditions.{badFactor, badDownFactor, badDownType, badControl, badChip}
-use Rattle.timeslots.specs.Calls.{partsRefusals, atRefusals}
-use Rattle.mqarbset_book.specs.Mirror.{neither, readDirection, readFactor}
+use Rattle.conditions.specs.Conditions.{badType, badFactor, badSlotChip}
+use Rattle.tables.specs.Tables.{partsRefusals}
+use Rattle.refusals.specs.Refusals.{Refusals, firstOf, answer}
+use Rattle.timeslots.specs.Calls.{atRefusals, partsAnswer, atAnswer}
+use Rattle.mqarbset_book.specs.Mirror.{neither, readDirection}
+use Rattle.mqarbset_book.specs.Inside.{factorBeside}
+use Rattle.mqarbset.specs.Calls.{partsRefusalsOverC, partsAnswerOverC, atAnswerOverC}
+
+-- a call that is refused at 6 at the latest says so, whatever it would have answered
+by-number : {A : Type 0} (two : Bool) (v w : A) (n m : ℕ) → n ≡ cond two 2 6 → m ≡ cond two 2 6 → answer n v ≡ answer m w
+unfolding answer
+by-number true v w n m en em = simp (en, em)
+by-number false v w n m en em = simp (en, em)
 
 module _ (burst direction factor tfci tpc : ℕ) where
-  abbrev pub table : Refusals
-  table =
-      (2, badType burst) ∷
-      (6, neither direction || (badFactor factor || badDownFactor (readDirection direction) factor)) ∷
-      (7, badDownType (readDirection direction) burst) ∷
-      (8, badControl (readDirection direction) tfci tpc) ∷ []
+  library-number : (rest : Refusals) → neither direction ≡ true
+      → firstOf (partsRefusals burst (readDirection direction) (factorBeside direction factor) tfci tpc ++ rest) ≡ cond (badType burst) 2 6
+  unfolding partsRefusals factorBeside badFactor firstOf
+  library-number rest e = simp e
 
-  by-direction : (n : Bool) → neither direction ≡ n → (rest : Refusals)
-      → firstOf (partsRefusals burst (readDirection direction) (readFactor direction factor) tfci tpc ++ rest) ≡ firstOf (table ++ rest)
-  unfolding partsRefusals readFactor badFactor firstOf
-  by-direction true e rest = simp e
-  by-direction false e rest = simp e
+  table-number : (rest : Refusals) → neither direction ≡ true → firstOf (partsRefusalsOverC burst direction factor tfci tpc ++ rest) ≡ cond (badType burst) 2 6
+  unfolding partsRefusalsOverC firstOf
+  table-number rest e = simp e
 
-  pub parts-direction : firstOf (partsRefusals burst (readDirection direction) (readFactor direction factor) tfci tpc) ≡ firstOf table
-  unfolding partsRefusals
-  parts-direction = by-direction (neither direction) refl []
+  parts-by : (n : Bool) → neither direction ≡ n
+      → partsAnswer burst (readDirection direction) (factorBeside direction factor) tfci tpc ≡ partsAnswerOverC burst direction factor tfci tpc
+  unfolding partsAnswer partsAnswerOverC partsRefusals partsRefusalsOverC factorBeside firstOf
+  parts-by true e = by-number (badType burst) _ _ _ _ (library-number [] e) (table-number [] e)
+  parts-by false e = simp e
 
-  pub at-direction : (chip : ℕ) → firstOf (atRefusals burst (readDirection direction) (readFactor direction factor) tfci tpc chip) ≡ firstOf (table ++ ((10, badChip chip) ∷ []))
-  unfolding atRefusals
-  at-direction chip = by-direction (neither direction) refl ((10, badChip chip) ∷ [])
+  pub parts-over : partsAnswer burst (readDirection direction) (factorBeside direction factor) tfci tpc ≡ partsAnswerOverC burst direction factor tfci tpc
+  parts-over = parts-by (neither direction) refl
+
+  at-by : (chip : ℕ) (n : Bool) → neither direction ≡ n
+      → atAnswer burst (readDirection direction) (factorBeside direction factor) tfci tpc chip ≡ atAnswerOverC burst direction factor tfci tpc chip
+  unfolding atAnswer atRefusals atAnswerOverC partsRefusals partsRefusalsOverC factorBeside firstOf
+  at-by chip true e = by-number (badType burst) _ _ _ _ (library-number ((10, badSlotChip chip) ∷ []) e) (table-number ((10, badSlotChip chip) ∷ []) e)
+  at-by chip false e = simp e
+
+  pub at-over : (chip : ℕ)
+      → atAnswer burst (readDirection direction) (factorBeside direction factor) tfci tpc chip ≡ atAnswerOverC burst direction factor tfci tpc chip
+  at-over chip = at-by chip (neither direction) refl

@@ -8,19 +8,18 @@ use lib.Dec.{eqb}
 use lib.ListN.{getD}
 use Rattle.refusals.specs.Refusals.{Answer, refused, answered, answer, _leaving_}
 use Rattle.midambles.specs.Calls.{chipAnswer, midambleOutcome}
-use Rattle.timeslots.specs.Timeslots.{Part, DATA1, TFCI1, MIDAMBLE, TPC, TFCI2, DATA2, GUARD, order, spans, sevenParts}
-use Rattle.timeslots.specs.declared.Direction.{Direction}
-use Rattle.timeslots.specs.Calls.{partsAnswer, atAnswer}
+use Rattle.timeslots.specs.Timeslots.{Part, DATA1, TFCI1, MIDAMBLE, TPC, TFCI2, DATA2, GUARD, order, partLengths, spans, sevenParts}
 use Rattle.beacons.specs.Beacons.{beaconsOf}
 use Rattle.beacons.specs.Calls.{beaconAnswer}
 use Rattle.paging.specs.Paging.{placeOf, Owner, reserved, owned}
-use Rattle.paging.specs.Calls.{indicatorAnswer, ownerAnswer, writeOutcome, readOutcome}
+use Rattle.paging.specs.Calls.{indicatorAnswer, ownerAnswer, pageOutcome, readPageOutcome}
 use Rattle.classbook.specs.declared.Book.{Book}
-use Rattle.mqarbset_book.specs.Records.{recordsOutcome}
-use Rattle.mqarbset_words.specs.Words.{putting, wordsOutcome}
-use Rattle.mqarbset.specs.Calls.{asC, asCLeaving, saidInC}
-use Rattle.mqarbset.specs.Slots.{partsAsC, partNumber, placeAsC, beaconsAsC, zipped, partsInC, placeInC, beaconsInC}
-use Rattle.mqarbset.specs.Pages.{indicatorAsC, ownerAsC, indicatorInC, ownerInC}
+use Rattle.mqarbset_list.specs.Records.{recordsOutcome}
+use Rattle.refusal_words.specs.Words.{putting, wordsOutcome}
+use Rattle.mqarbset_answers.specs.Answers.{answerAsC, outcomeAsC, answerInC}
+use Rattle.mqarbset_answers.specs.Slots.{partsAsC, partNumber, placeAsC, beaconsAsC, zipped, partsInC, placeInC, beaconsInC}
+use Rattle.mqarbset_answers.specs.Pages.{indicatorAsC, ownerAsC, indicatorInC, ownerInC}
+use Rattle.mqarbset.specs.Calls.{partsAnswerOverC, atAnswerOverC}
 
 -- an answer that goes by a first refusal's number is read back if its value is
 module _ {A S : Type 0} (write : Answer A → S) (read : S → Answer A) (no-refusal : (n : ℕ) → eqb n 0 ≡ false → read (write (refused n)) ≡ refused n) where
@@ -34,49 +33,50 @@ module _ {A S : Type 0} (write : Answer A → S) (read : S → Answer A) (no-ref
 
 -- ---- a value
 
-pub read-answer : (n v : ℕ) → saidInC (asC (answer n v)) ≡ answer n v
-unfolding saidInC asC
-read-answer n v = back asC saidInC (λ m e. simp e) n v (λ _. refl)
+pub read-answer : (n v : ℕ) → answerInC (answerAsC (answer n v)) ≡ answer n v
+unfolding answerInC answerAsC
+read-answer n v = back answerAsC answerInC (λ m e. simp e) n v (λ _. refl)
 
-pub read-chip : (cell burst count user chip : ℕ) → saidInC (asC (chipAnswer cell burst count user chip)) ≡ chipAnswer cell burst count user chip
+pub read-chip : (cell burst count user chip : ℕ) → answerInC (answerAsC (chipAnswer cell burst count user chip)) ≡ chipAnswer cell burst count user chip
 unfolding chipAnswer
 read-chip cell burst count user chip = read-answer _ _
 
 -- ---- a value, and lent memory
 
-pub read-leaving : (n v : ℕ) (m : List ℕ) → saidInC (asCLeaving (answer n v leaving m) .0) leaving asCLeaving (answer n v leaving m) .1 ≡ answer n v leaving m
-unfolding asCLeaving
+pub read-leaving : (n v : ℕ) (m : List ℕ) → answerInC (outcomeAsC (answer n v leaving m) .0) leaving outcomeAsC (answer n v leaving m) .1 ≡ answer n v leaving m
+unfolding outcomeAsC
 read-leaving n v m = ap (λ (a : Answer ℕ). a leaving m) (read-answer n v)
 
 pub read-midamble : (cell burst count user : ℕ) (out : List ℕ)
-    → saidInC (asCLeaving (midambleOutcome cell burst count user out) .0) leaving asCLeaving (midambleOutcome cell burst count user out) .1 ≡ midambleOutcome cell burst count user out
+    → answerInC (outcomeAsC (midambleOutcome cell burst count user out) .0) leaving outcomeAsC (midambleOutcome cell burst count user out) .1 ≡ midambleOutcome cell burst count user out
 unfolding midambleOutcome
 read-midamble cell burst count user out = read-leaving _ _ _
 
 pub read-list : (b : Book) (seat : ℕ) (out : List ℕ)
-    → saidInC (asCLeaving (recordsOutcome b seat out) .0) leaving asCLeaving (recordsOutcome b seat out) .1 ≡ recordsOutcome b seat out
+    → answerInC (outcomeAsC (recordsOutcome b seat out) .0) leaving outcomeAsC (recordsOutcome b seat out) .1 ≡ recordsOutcome b seat out
 unfolding recordsOutcome
 read-list b seat out = read-leaving _ _ _
 
 pub read-page : (burst length : ℕ) (settings out : List ℕ)
-    → saidInC (asCLeaving (writeOutcome burst length settings out) .0) leaving asCLeaving (writeOutcome burst length settings out) .1 ≡ writeOutcome burst length settings out
-unfolding writeOutcome
+    → answerInC (outcomeAsC (pageOutcome burst length settings out) .0) leaving outcomeAsC (pageOutcome burst length settings out) .1 ≡ pageOutcome burst length settings out
+unfolding pageOutcome
 read-page burst length settings out = read-leaving _ _ _
 
 pub read-read-page : (burst length : ℕ) (bits out : List ℕ)
-    → saidInC (asCLeaving (readOutcome burst length bits out) .0) leaving asCLeaving (readOutcome burst length bits out) .1 ≡ readOutcome burst length bits out
-unfolding readOutcome
+    → answerInC (outcomeAsC (readPageOutcome burst length bits out) .0) leaving outcomeAsC (readPageOutcome burst length bits out) .1 ≡ readPageOutcome burst length bits out
+unfolding readPageOutcome
 read-read-page burst length bits out = read-leaving _ _ _
 
-pub read-text : (number : ℕ) (out : List ℕ) → saidInC (asCLeaving (wordsOutcome number out) .0) leaving asCLeaving (wordsOutcome number out) .1 ≡ wordsOutcome number out
+pub read-text : (number : ℕ) (out : List ℕ) → answerInC (outcomeAsC (wordsOutcome number out) .0) leaving outcomeAsC (wordsOutcome number out) .1 ≡ wordsOutcome number out
 unfolding wordsOutcome putting
 read-text number out = read-leaving _ _ _
 
 -- ---- the other structs
 
-pub read-parts : (burst : ℕ) (d : Direction) (factor tfci tpc : ℕ) → partsInC (partsAsC (partsAnswer burst d factor tfci tpc)) ≡ partsAnswer burst d factor tfci tpc
-unfolding partsInC partsAsC partsAnswer sevenParts spans zipped
-read-parts burst d factor tfci tpc = back partsAsC partsInC (λ m e. simp e) _ _ (λ _. refl)
+pub read-parts : (burst direction factor tfci tpc : ℕ)
+    → partsInC (partsAsC (partsAnswerOverC burst direction factor tfci tpc)) ≡ partsAnswerOverC burst direction factor tfci tpc
+unfolding partsInC partsAsC partsAnswerOverC sevenParts partLengths order spans zipped
+read-parts burst direction factor tfci tpc = back partsAsC partsInC (λ m e. simp e) _ _ (λ _. refl)
 
 part-back : (p : Part) → getD order (partNumber p - 1) GUARD ≡ p
 unfolding order partNumber
@@ -92,9 +92,10 @@ place-back : (a : Part × ℕ) → placeInC (placeAsC (answered a)) ≡ answered
 unfolding placeInC placeAsC
 place-back a = ap (λ (p : Part). answered (p, a .1)) (part-back (a .0))
 
-pub read-at : (burst : ℕ) (d : Direction) (factor tfci tpc chip : ℕ) → placeInC (placeAsC (atAnswer burst d factor tfci tpc chip)) ≡ atAnswer burst d factor tfci tpc chip
-unfolding placeInC placeAsC atAnswer
-read-at burst d factor tfci tpc chip = back placeAsC placeInC (λ m e. simp e) _ _ (λ _. place-back _)
+pub read-at : (burst direction factor tfci tpc chip : ℕ)
+    → placeInC (placeAsC (atAnswerOverC burst direction factor tfci tpc chip)) ≡ atAnswerOverC burst direction factor tfci tpc chip
+unfolding placeInC placeAsC atAnswerOverC
+read-at burst direction factor tfci tpc chip = back placeAsC placeInC (λ m e. simp e) _ _ (λ _. place-back _)
 
 pub read-indicator : (burst length frames number : ℕ) → indicatorInC (indicatorAsC (indicatorAnswer burst length frames number)) ≡ indicatorAnswer burst length frames number
 unfolding indicatorInC indicatorAsC indicatorAnswer placeOf

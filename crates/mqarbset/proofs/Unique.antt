@@ -4,18 +4,18 @@ use mathlib.Core.Path.{_≡_, sym, ap, _∙_}
 use mathlib.Core.List.{List}
 use Prim.Native.Nat.{ℕ}
 use denote.Ref.{now}
-use Rattle.mqarbset.specs.declared.MqAnswer.{MqAnswer}
+use Rattle.mqarbset_answers.specs.declared.MqAnswer.{MqAnswer}
 use Rattle.mqarbset.proofs.mq_midamble_chip.Reads as chip
 use Rattle.mqarbset.proofs.mq_midamble.Reads as midamble
-use Rattle.mqarbset.proofs.mq_list_bytes.Reads as list
+use Rattle.mqarbset.proofs.book.mq_list_bytes.Reads as list
 use Rattle.mqarbset.proofs.mq_refusal_text.Reads as text
 use Rattle.mqarbset.proofs.pages.mq_page.Reads as page
 use Rattle.mqarbset.proofs.pages.mq_read_page.Reads as read-page
-use Rattle.mqarbset.proofs.mq_empty_book.Reads as empty
-use Rattle.mqarbset.proofs.mq_open_value.Reads as opens
-use Rattle.mqarbset.proofs.mq_book_value.Reads as book
-use Rattle.mqarbset.proofs.mq_cancel_value.Reads as cancel
-use Rattle.mqarbset.proofs.mq_close_value.Reads as close
+use Rattle.mqarbset.proofs.book.mq_empty_book.Reads as empty
+use Rattle.mqarbset.proofs.book.mq_open_value.Reads as opens
+use Rattle.mqarbset.proofs.book.mq_book_value.Reads as book
+use Rattle.mqarbset.proofs.book.mq_cancel_value.Reads as cancel
+use Rattle.mqarbset.proofs.book.mq_close_value.Reads as close
 use Rattle.mqarbset.proofs.slots.mq_parts.Reads as parts
 use Rattle.mqarbset.proofs.slots.mq_at.Reads as at
 use Rattle.mqarbset.proofs.slots.mq_beacon.Reads as beacon

@@ -1,4 +1,4 @@
--- What a call hands back: refused, the caller's own bytes, else the book that was made. Cited by the proofs of the calls.
+-- What a call hands back: refused, the caller's own bytes, else the book that was made. Cited by the proofs of `handed_back` and of the exports of the book.
 -- Assumes nothing.
 use mathlib.Core.Path.{_≡_, sym, ap, _∙_}
 use Prim.Native.Nat.{ℕ}

@@ -1,7 +1,7 @@
 pub mod Copied
 pub mod Sized
+pub mod Flags
 pub mod Handed
-pub mod Listed
 pub mod Kept
 pub mod Damaged
-pub mod Unique
+pub mod Neither

@@ -1,3 +1,3 @@
 pub mod Mirror
+pub mod Inside
 pub mod Calls
-pub mod Records

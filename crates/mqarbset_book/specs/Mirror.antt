@@ -1,14 +1,16 @@
 -- The class book as bytes over C: how a caller's bytes are read as a book, whatever they are, and how a book is written as bytes. Cited by specs/Calls.antt.
 -- Assumes nothing.
-use mathlib.Core.Bool.{Bool, cond, not}
+use mathlib.Core.Bool.{Bool, false, cond, not, _&&_}
 use mathlib.Core.List.{map}
 use Prim.Native.Nat.{ℕ}
 use lib.Dec.{eqb, ltb}
-use Rattle.laws.specs.Lists.{one}
-use Rattle.timeslots.specs.declared.Direction.{Direction}
-use Rattle.timeslots.specs.declared.Direction.the-variants.{Up, Down}
+use lib.ListN.{replicate}
+use Rattle.laws.specs.Lists.{one, every}
+use Rattle.conditions.specs.declared.Direction.{Direction}
+use Rattle.conditions.specs.declared.Direction.the-variants.{Up, Down}
 use Rattle.bookings.specs.declared.Booking.{Booking}
-use Rattle.seats.specs.declared.seat.Seat.{Seat}
+use Rattle.seats.specs.declared.Seat.{Seat}
+use Rattle.seats.specs.Seats.{blank}
 use Rattle.classbook.specs.declared.Book.{Book}
 use Rattle.mqarbset_book.specs.declared.MqBooking.{MqBooking}
 use Rattle.mqarbset_book.specs.declared.MqSeat.{MqSeat}
@@ -22,30 +24,27 @@ neither v = ltb 1 v
 unfoldable pub readDirection : ℕ → Direction
 readDirection d = cond (eqb d 1) Down Up
 
--- a direction that is neither spoils the factor beside it: 255 is no spreading factor, so the booking is refused with 6, or breaks the conditions of its book
-unfoldable pub readFactor : ℕ → ℕ → ℕ
-readFactor d factor = cond (neither d) 255 factor
-
+-- a booking, byte by byte
 unfoldable pub readBooking : MqBooking → Booking
 readBooking x =
     record {
       timeslot = x .timeslot;
       direction = readDirection (x .direction);
       burst = x .burst;
-      factor = readFactor (x .direction) (x .factor);
+      factor = x .factor;
       index = x .index;
       user = x .user;
       tfci = x .tfci;
       tpc = x .tpc;
     }
 
--- 0 is closed and 1 is open; what is neither is read as open with cell parameter 255, which there is not
+-- a seat, byte by byte: live 0 is closed and 1 is open
 unfoldable pub readSeat : MqSeat → Seat
 readSeat s =
     record {
-      live = not (eqb (s .live) 0);
-      cell = cond (neither (s .live)) 255 (s .cell);
-      sync = s .sync;
+      live = eqb (s .live) 1;
+      cell = s .cell;
+      case = s .case;
       k = s .k;
       long = s .long;
       short = s .short;
@@ -53,15 +52,35 @@ readSeat s =
       row = map readBooking (s .row);
     }
 
+-- each byte that should be 0 or 1 is one of the two: of a booking, or a place that is not in use, its direction
+abbrev pub properBooking : MqBooking → Bool
+properBooking x = not (neither (x .direction))
+
+-- of a seat whether it is open, and each of its 40 places
+unfoldable pub properSeat : MqSeat → Bool
+properSeat s = not (neither (s .live)) && every properBooking (s .row)
+
+-- of a book each of its seats
+unfoldable pub proper : MqBook → Bool
+proper b = every properSeat (b .seats)
+
+-- a book that breaks its conditions: its seats are closed, and say that they hold a booking
+unfoldable pub brokenBook : Book
+brokenBook =
+    record { seats = replicate 16 (record { live = false; cell = 0; case = 0; k = 0; long = 0; short = 0; count = 1; row = replicate 40 blank }) }
+
+-- the book that a caller's bytes say; bytes that are not proper say one that breaks its conditions, so that every call on them gets 12
 unfoldable pub readBook : MqBook → Book
-readBook b = record { seats = map readSeat (b .seats) }
+readBook b = cond (proper b) (record { seats = map readSeat (b .seats) }) brokenBook
 
 -- ---- and back
 
+-- up is 0 and down is 1
 unfoldable pub writeDirection : Direction → ℕ
 writeDirection Up = 0
 writeDirection Down = 1
 
+-- a booking, byte by byte
 unfoldable pub writeBooking : Booking → MqBooking
 writeBooking x =
     record {
@@ -75,12 +94,13 @@ writeBooking x =
       tpc = x .tpc;
     }
 
+-- a seat, byte by byte: closed is 0 and open is 1
 unfoldable pub writeSeat : Seat → MqSeat
 writeSeat s =
     record {
       live = one (s .live);
       cell = s .cell;
-      sync = s .sync;
+      case = s .case;
       k = s .k;
       long = s .long;
       short = s .short;
@@ -88,5 +108,6 @@ writeSeat s =
       row = map writeBooking (s .row);
     }
 
+-- a book, seat by seat
 unfoldable pub writeBook : Book → MqBook
 writeBook b = record { seats = map writeSeat (b .seats) }

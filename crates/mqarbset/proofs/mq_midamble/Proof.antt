@@ -1,7 +1,6 @@
--- `mqarbset::mq_midamble` meets its promise: each case of the call's enum by the law of Turned.
+-- `mqarbset::mq_midamble` meets its promise: the call's answer, turned into the struct.
 -- Assumes nothing.
 use borrow.Author.Needs.{needs}
-use Rattle.midambles.specs.Calls.{saidOfMidamble}
 use Rattle.mqarbset.proofs.Turned.{turned-leaving}
 use Rattle.mqarbset.proofs.mq_midamble.Statement.{statement}
 use Rattle.mqarbset.proofs.mq_midamble.Tie as tie
@@ -9,42 +8,15 @@ use Rattle.mqarbset.proofs.mq_midamble.Tie as tie
 midamble-requires : tie.Need-midamble-requires
 midamble-requires c κs = search needs
 
-enum-known-r : tie.Need-enum-known-r
-enum-known-r c = search needs
-
-refusing-requires : tie.Need-refusing-requires
-refusing-requires c κs = search needs
-
-enum-known-r-2 : tie.Need-enum-known-r-2
-enum-known-r-2 c = search needs
-
-giving-requires : tie.Need-giving-requires
-giving-requires c κs = search needs
+midamble-as-c-requires : tie.Need-midamble-as-c-requires
+midamble-as-c-requires c κs = search needs
 
 same-length : tie.Need-same-length
 same-length c = search needs
 
 returns : tie.Need-returns
-unfolding saidOfMidamble
-returns c = turned-leaving saidOfMidamble _ _ _ (c .before .before .r .given .1) (c .refusing .ensures) _ _ (c .before .before .before .before .before .before .midamble .ensures)
-
-same-length-2 : tie.Need-same-length-2
-same-length-2 c = search needs
-
-returns-2 : tie.Need-returns-2
-unfolding saidOfMidamble
-returns-2 c = turned-leaving saidOfMidamble _ _ _ (c .before .before .r2 .given .1) (c .giving .ensures) _ _ (c .before .before .before .before .before .before .midamble .ensures)
+returns c = turned-leaving _ _ _ _ (c .midamble-as-c .ensures) (c .before .before .before .midamble .ensures)
 
 pub mq-midamble-spec : {M : Type 1} → statement M
 mq-midamble-spec =
-    tie.close
-    (tie.spec
-    midamble-requires
-    enum-known-r
-    refusing-requires
-    enum-known-r-2
-    giving-requires
-    same-length
-    returns
-    same-length-2
-    returns-2)
+    tie.close (tie.spec midamble-requires midamble-as-c-requires same-length returns)

@@ -1,0 +1,86 @@
+// A book as bytes for a C caller.
+ghost use mathlib.Core.Path.{_≡_};
+ghost use mathlib.Core.List.{map};
+ghost use Rattle.mqarbset_book.specs.Mirror.{writeBooking, writeSeat, writeBook};
+use crate::MqBook;
+use crate::MqBooking;
+use crate::MqSeat;
+use bookings::Booking;
+use classbook::Book;
+use seats::Seat;
+
+// A booking, byte by byte.
+fn write_booking(x: Booking) -> MqBooking
+    ensures { λ r. ⌜ r ≡ writeBooking x ⌝ }
+{
+    let d = x.direction;
+    let down = conditions::is_down(d);
+    MqBooking {
+        timeslot: x.timeslot,
+        direction: down as u8,
+        burst: x.burst,
+        factor: x.factor,
+        index: x.index,
+        user: x.user,
+        tfci: x.tfci,
+        tpc: x.tpc,
+    }
+}
+
+// The 40 places of a seat.
+fn write_row(row: [Booking; 40]) -> [MqBooking; 40]
+    ensures { λ r. ⌜ r ≡ map writeBooking row ⌝ }
+{
+    let none = MqBooking {
+        timeslot: 0,
+        direction: 0,
+        burst: 0,
+        factor: 0,
+        index: 0,
+        user: 0,
+        tfci: 0,
+        tpc: 0,
+    };
+    let mut out = [none; 40];
+    let mut i: usize = 0;
+    while i < 40 {
+        let x = row[i];
+        let y = write_booking(x);
+        out[i] = y;
+        i += 1;
+    }
+    out
+}
+
+// A seat, byte by byte: closed is 0 and open is 1.
+fn write_seat(s: Seat) -> MqSeat
+    ensures { λ r. ⌜ r ≡ writeSeat s ⌝ }
+{
+    let from = s.row;
+    let row = write_row(from);
+    MqSeat {
+        live: s.live as u8,
+        cell: s.cell,
+        case: s.case,
+        k: s.k,
+        long: s.long,
+        short: s.short,
+        count: s.count,
+        row,
+    }
+}
+
+// A book written over other bytes.
+pub fn write_book(b: Book, over: MqBook) -> MqBook
+    ensures { λ r. ⌜ r ≡ writeBook b ⌝ }
+{
+    let mut out = over.seats;
+    let mut i: usize = 0;
+    while i < 16 {
+        let s = b.seats[i];
+        let t = write_seat(s);
+        out[i] = t;
+        i += 1;
+    }
+    MqBook { seats: out }
+}

@@ -1,22 +1,13 @@
 // The call on beacon timeslots.
-use crate::say;
+use crate::replies;
+use crate::replies::Reply;
 use beacons::BeaconAnswer;
-use lesson_words::numbers;
+use lesson_words::numbers::Values;
 
-fn two(out: &mut [u8; 4096], at: usize, t: u32, u: u32) -> usize {
-    let mut n = printing::word(out, at, b"beacon");
-    n = printing::item(out, n, t);
-    n = printing::item(out, n, u);
-    printing::line(out, n)
-}
-
-pub fn beacon(out: &mut [u8; 4096], at: usize, number: u64, text: &[u8]) -> usize {
-    if !numbers::fit(text, b"nn") {
-        return say::expected(out, at, number, b"beacon CASE K");
-    }
-    match beacons::beacon(numbers::number_at(text, 1), numbers::number_at(text, 2)) {
-        BeaconAnswer::Refused(n) => say::refused(out, at, n),
-        BeaconAnswer::One(t) => say::named(out, at, b"beacon", t),
-        BeaconAnswer::Two(t, u) => two(out, at, t, u),
+pub fn beacon(v: Values) -> Reply {
+    match beacons::beacon(v.first, v.second) {
+        BeaconAnswer::Refused(n) => replies::refused(n),
+        BeaconAnswer::One(t) => replies::one(replies::BEACON, t),
+        BeaconAnswer::Two(t, u) => replies::two(replies::BEACONS, t, u),
     }
 }

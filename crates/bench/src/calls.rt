@@ -1,14 +1,19 @@
-// Which call a line is.
+// Which call a line is, and its reply.
 ghost use mathlib.Core.Path.{_≡_};
-ghost use Rattle.bench.specs.Lines.{namedLine, bookAfter};
+ghost use Rattle.bench.specs.Lines.{namedLine, bookAfterLine};
+ghost use Rattle.bench.specs.Inside.{madeBy, wordedBy, tabledBy};
 use crate::beacon_calls;
 use crate::book_calls;
 use crate::help;
 use crate::midamble_calls;
 use crate::paging_calls;
+use crate::replies;
+use crate::replies::Reply;
 use crate::say;
 use crate::timeslot_calls;
 use classbook::Book;
+use lesson_words::numbers;
+use lesson_words::numbers::Values;
 use lesson_words::words;
 
 // A line was answered: the place of the next byte of output, and the book as it now is.
@@ -17,84 +22,115 @@ pub struct Turn {
     pub book: Book,
 }
 
+// The calls whose replies are numbers, by their numbers in the table below.
+fn numbered(call: u32, v: Values) -> Reply {
+    match call {
+        5 => midamble_calls::chip(v),
+        8 => timeslot_calls::at_chip(v),
+        9 => beacon_calls::beacon(v),
+        10 => paging_calls::indicator(v),
+        _ => paging_calls::owner(v),
+    }
+}
+
 // The calls that ask and change nothing.
-fn asking(
+fn asking(out: &mut [u8; 4096], at: usize, call: u32, v: Values, row: &[u8], b: Book) -> usize {
+    match call {
+        4 => book_calls::list(out, at, v, b),
+        6 => midamble_calls::midamble(out, at, v),
+        7 => timeslot_calls::parts(out, at, v),
+        11 => paging_calls::row(out, at, false, v, row),
+        12 => paging_calls::row(out, at, true, v, row),
+        14 => help::help(out, at),
+        _ => replies::said(out, at, numbered(call, v)),
+    }
+}
+
+// A call whose words are as they should be: the first four change the book.
+fn made(out: &mut [u8; 4096], at: usize, call: u32, v: Values, row: &[u8], b: Book) -> Turn
+    ensures { λ r. ⌜ r .book ≡ madeBy call v b ⌝ }
+{
+    if call < 4 {
+        let a = lesson_book::asked(call, v, b);
+        let n = say::done(out, at, a.refusal);
+        let book = a.book;
+        return Turn { at: n, book };
+    }
+    let n = asking(out, at, call, v, row, b);
+    Turn { at: n, book: b }
+}
+
+// A call by its number: its words are read, and must be of these kinds.
+fn worded(
+    out: &mut [u8; 4096],
+    at: usize,
+    number: u64,
+    call: u32,
+    kinds: &[u8],
+    rest: &[u8],
+    b: Book,
+) -> Turn
+    ensures { λ r. ⌜ r .book ≡ wordedBy call (now (kinds .entry)) (now (rest .entry)) b ⌝ }
+{
+    let line = numbers::read(rest, kinds);
+    if !line.fit {
+        let n = say::expected(out, at, number, call);
+        return Turn { at: n, book: b };
+    }
+    let v = line.values;
+    let from = line.from;
+    let to = line.to;
+    made(out, at, call, v, &rest[from..to], b)
+}
+
+// A line by its first word, in a table of fifteen calls.
+fn tabled(
     out: &mut [u8; 4096],
     at: usize,
     number: u64,
     name: &[u8],
-    text: &[u8],
+    rest: &[u8],
+    table: &[u8],
     b: Book,
-) -> usize {
-    if words::same(name, b"list") {
-        return book_calls::list(out, at, number, text, b);
-    }
-    if words::same(name, b"chip") {
-        return midamble_calls::chip(out, at, number, text);
-    }
-    if words::same(name, b"midamble") {
-        return midamble_calls::midamble(out, at, number, text);
-    }
-    if words::same(name, b"parts") {
-        return timeslot_calls::parts(out, at, number, text);
-    }
-    if words::same(name, b"at") {
-        return timeslot_calls::at_chip(out, at, number, text);
-    }
-    if words::same(name, b"beacon") {
-        return beacon_calls::beacon(out, at, number, text);
-    }
-    paging(out, at, number, name, text)
-}
-
-fn paging(out: &mut [u8; 4096], at: usize, number: u64, name: &[u8], text: &[u8]) -> usize {
-    if words::same(name, b"indicator") {
-        return paging_calls::indicator(out, at, number, text);
-    }
-    if words::same(name, b"page") {
-        return paging_calls::page(out, at, number, text);
-    }
-    if words::same(name, b"read") {
-        return paging_calls::read(out, at, number, text);
-    }
-    if words::same(name, b"owner") {
-        return paging_calls::owner(out, at, number, text);
-    }
-    if words::same(name, b"help") {
-        return help::help(out, at, number, text);
-    }
-    say::unknown(out, at, number)
-}
-
-// The calls that change the book; the others leave it.
-fn call(out: &mut [u8; 4096], at: usize, number: u64, name: &[u8], text: &[u8], b: Book) -> Turn
-    ensures { λ r. ⌜ r .book ≡ namedLine (now (name .entry)) (now (text .entry)) b ⌝ }
+) -> Turn
+    ensures { λ r. ⌜ r .book ≡ tabledBy (now (table .entry)) (now (name .entry)) (now (rest .entry)) b ⌝ }
 {
-    if words::same(name, b"open") {
-        return book_calls::open_call(out, at, number, text, b);
+    let found = words::look_up(name, table, 15);
+    if found.number == 15 {
+        let n = say::no_call(out, at, number, b": unknown word; 'help' lists the calls\n");
+        return Turn { at: n, book: b };
     }
-    if words::same(name, b"book") {
-        return book_calls::book_call(out, at, number, text, b);
-    }
-    if words::same(name, b"cancel") {
-        return book_calls::cancel(out, at, number, text, b);
-    }
-    if words::same(name, b"close") {
-        return book_calls::close(out, at, number, text, b);
-    }
-    let n = asking(out, at, number, name, text, b);
-    Turn { at: n, book: b }
+    let from = found.from;
+    let to = found.to;
+    worded(out, at, number, found.number, &table[from..to], rest, b)
+}
+
+// The table of calls, each with the kinds of its words: `n` a number, `d` a direction, `r` a row. `help` is the last and has none.
+fn named(out: &mut [u8; 4096], at: usize, number: u64, name: &[u8], rest: &[u8], b: Book) -> Turn
+    ensures { λ r. ⌜ r .book ≡ namedLine (now (name .entry)) (now (rest .entry)) b ⌝ }
+{
+    tabled(
+        out,
+        at,
+        number,
+        name,
+        rest,
+        b"open nnnnnn book nndnnnnnn cancel nnnn close n list n chip nnnnn midamble nnnn parts ndnnn at ndnnnn beacon nn indicator nnnn page nnr read nnr owner nnn help",
+        b,
+    )
 }
 
 // The reply to line `number`. A line without words has none.
 pub fn answer(out: &mut [u8; 4096], at: usize, number: u64, line: &[u8], b: Book) -> Turn
-    ensures { λ r. ⌜ r .book ≡ bookAfter (now (line .entry)) b ⌝ }
+    ensures { λ r. ⌜ r .book ≡ bookAfterLine (now (line .entry)) b ⌝ }
 {
-    let end = words::comment(line);
+    let end = words::find(line, 0, b'#');
     let text = &line[..end];
-    let name = words::word(text, 0);
-    if name.len() == 0 {
+    let w = words::word(text, 0);
+    let from = w.from;
+    let to = w.to;
+    if from == to {
         return Turn { at, book: b };
     }
-    call(out, at, number, name, text, b)
+    named(out, at, number, &text[from..to], &text[to..], b)
 }

@@ -4,6 +4,7 @@ ghost use Rattle.classbook.specs.Book.{emptyBook};
 ghost use Rattle.bench.specs.Lines.{gatheredLine};
 use crate::calls;
 use crate::calls::Turn;
+use crate::say;
 use classbook::Book;
 use lesson_words::words;
 
@@ -64,7 +65,7 @@ fn reply(line: &[u8], held: usize, out: &mut [u8; 4096], at: usize, number: u64,
     if held < line.len() {
         return calls::answer(out, at, number, &line[..held], b);
     }
-    let n = crate::say::too_long(out, at, number);
+    let n = say::no_call(out, at, number, b": longer than 1023 bytes\n");
     Turn { at: n, book: b }
 }
 
@@ -102,7 +103,7 @@ pub fn block(bytes: &[u8], line: &mut [u8; 1024], out: &mut [u8; 4096], s: Sessi
     let mut t = s;
     let mut from = 0;
     while from < bytes.len() {
-        let end = words::line_end(bytes, from);
+        let end = words::find(bytes, from, b'\n');
         let held = gathered(line, t.length, &bytes[from..end]);
         if end == bytes.len() {
             return holding(t, held);
@@ -111,13 +112,4 @@ pub fn block(bytes: &[u8], line: &mut [u8; 1024], out: &mut [u8; 4096], s: Sessi
         from = end + 1;
     }
     t
-}
-
-// At the end of the input a line may stand that has no LF.
-pub fn last(line: &[u8; 1024], out: &mut [u8; 4096], s: Session) -> Session {
-    if s.length == 0 {
-        return s;
-    }
-    let held = s.length;
-    answered(line, held, out, s)
 }

@@ -1,82 +1,73 @@
 // Replies. Each call puts one whole line into the buffer of output and gives back the place behind it.
-use crate::conditions;
-use timeslots::Direction;
+use refusal_words::WordsAnswer;
 
-// `ok`
-pub fn ok(out: &mut [u8; 4096], at: usize) -> usize {
-    printing::word(out, at, b"ok\n")
+// Document 01's words for a refusal.
+fn words(out: &mut [u8; 4096], at: usize, refusal: u32) -> usize {
+    let mut text = [0u8; 255];
+    match refusal_words::words(refusal, &mut text) {
+        WordsAnswer::Refused(_) => at,
+        WordsAnswer::Written(n) => printing::row(out, at, &text, n, 0),
+    }
 }
 
 // `refused N: ` and document 01's words for the number.
 pub fn refused(out: &mut [u8; 4096], at: usize, refusal: u32) -> usize {
-    let mut n = printing::word(out, at, b"refused ");
-    n = printing::number(out, n, refusal);
-    n = printing::word(out, n, b": ");
-    n = conditions::condition(out, n, refusal);
-    printing::line(out, n)
+    let n = named(out, at, b"refused #: ", refusal);
+    let n = words(out, n, refusal);
+    printing::put(out, n, b'\n')
 }
 
 // `ok`, or a refusal.
 pub fn done(out: &mut [u8; 4096], at: usize, refusal: u32) -> usize {
     if refusal == 0 {
-        return ok(out, at);
+        return printing::word(out, at, b"ok\n");
     }
     refused(out, at, refusal)
 }
 
-// A word and a number.
-pub fn named(out: &mut [u8; 4096], at: usize, word: &[u8], value: u32) -> usize {
-    let mut n = printing::word(out, at, word);
-    n = printing::item(out, n, value);
-    printing::line(out, n)
+// A form with one number.
+pub fn named(out: &mut [u8; 4096], at: usize, text: &[u8], value: u32) -> usize {
+    let numbers = [value];
+    printing::form(out, at, text, 0, &numbers)
 }
 
-// ` up` or ` down`, within a line.
-pub fn direction(out: &mut [u8; 4096], at: usize, d: Direction) -> usize {
-    match d {
-        Direction::Up => printing::word(out, at, b" up"),
-        Direction::Down => printing::word(out, at, b" down"),
-    }
+// A word and the first values of a row as digits with no blanks between.
+pub fn digits(out: &mut [u8; 4096], at: usize, word: &[u8], values: &[u8], count: u32) -> usize {
+    let n = printing::word(out, at, word);
+    let n = printing::row(out, n, values, count, b'0');
+    printing::put(out, n, b'\n')
 }
 
-// A word and the first bytes of a row as digits with no blanks between.
-pub fn digits(out: &mut [u8; 4096], at: usize, word: &[u8], row: &[u8], count: u32) -> usize {
-    let mut n = printing::word(out, at, word);
-    n = printing::put(out, n, b' ');
-    let end = count as usize;
-    let mut i = 0;
-    while i < row.len() {
-        if i < end {
-            n = printing::put(out, n, 48 + row[i] % 10);
-        }
-        i += 1;
-    }
-    printing::line(out, n)
+// What is said of a line that is no call: `line N` and a text.
+pub fn no_call(out: &mut [u8; 4096], at: usize, number: u64, text: &[u8]) -> usize {
+    let n = printing::word(out, at, b"line ");
+    let n = printing::number(out, n, number);
+    printing::word(out, n, text)
 }
 
-// `line N: `
-fn line(out: &mut [u8; 4096], at: usize, number: u64) -> usize {
-    let mut n = printing::word(out, at, b"line ");
-    n = printing::large(out, n, number);
-    printing::word(out, n, b": ")
-}
-
-// A line whose words are not those of its call.
-pub fn expected(out: &mut [u8; 4096], at: usize, number: u64, call: &[u8]) -> usize {
-    let mut n = line(out, at, number);
-    n = printing::word(out, n, b"expected: ");
-    n = printing::word(out, n, call);
-    printing::line(out, n)
-}
-
-// A line whose first word is no call.
-pub fn unknown(out: &mut [u8; 4096], at: usize, number: u64) -> usize {
-    let n = line(out, at, number);
-    printing::word(out, n, b"unknown word; 'help' lists the calls\n")
-}
-
-// A line that is not read.
-pub fn too_long(out: &mut [u8; 4096], at: usize, number: u64) -> usize {
-    let n = line(out, at, number);
-    printing::word(out, n, b"longer than 1023 bytes\n")
+// A line whose words are not those of its call, by the call's number: what was expected.
+pub fn expected(out: &mut [u8; 4096], at: usize, number: u64, call: u32) -> usize {
+    let n = no_call(out, at, number, b": expected: ");
+    let numbers = [0u32; 1];
+    printing::form(
+        out,
+        n,
+        b"open SEAT CELL CASE K LONG SHORT\n\
+            book SEAT SLOT up|down TYPE FACTOR INDEX USER TFCI TPC\n\
+            cancel SEAT SLOT FACTOR INDEX\n\
+            close SEAT\n\
+            list SEAT\n\
+            chip CELL TYPE COUNT USER I\n\
+            midamble CELL TYPE COUNT USER\n\
+            parts TYPE up|down FACTOR TFCI TPC\n\
+            at TYPE up|down FACTOR TFCI TPC CHIP\n\
+            beacon CASE K\n\
+            indicator TYPE L F PI\n\
+            page TYPE L SETTINGS (digits 0 and 1)\n\
+            read TYPE L BITS (digits 0 and 1)\n\
+            owner TYPE L BIT\n\
+            help\n",
+        call,
+        &numbers,
+    )
 }

@@ -1,80 +1,71 @@
 // The calls on the parts of a timeslot.
+use crate::replies;
+use crate::replies::Reply;
 use crate::say;
 use lesson_words::numbers;
-use timeslots::ChipAnswer;
+use lesson_words::numbers::Values;
+use timeslots::AtAnswer;
 use timeslots::Layout;
 use timeslots::PartsAnswer;
-use timeslots::Span;
 use timeslots::Symbol;
 
-// ` START+LENGTH`
-fn span(out: &mut [u8; 4096], at: usize, s: Span) -> usize {
-    let mut n = printing::item(out, at, s.start);
-    n = printing::put(out, n, b'+');
-    printing::number(out, n, s.length)
-}
-
 fn layout(out: &mut [u8; 4096], at: usize, l: Layout) -> usize {
-    let mut n = printing::word(out, at, b"parts");
-    n = span(out, n, l.data1);
-    n = span(out, n, l.tfci1);
-    n = span(out, n, l.midamble);
-    n = span(out, n, l.tpc);
-    n = span(out, n, l.tfci2);
-    n = span(out, n, l.data2);
-    n = span(out, n, l.guard);
-    n = printing::word(out, n, b" bits");
-    n = printing::item(out, n, l.bits1);
-    n = printing::item(out, n, l.bits2);
-    printing::line(out, n)
+    let numbers = [
+        l.data1.start,
+        l.data1.length,
+        l.tfci1.start,
+        l.tfci1.length,
+        l.midamble.start,
+        l.midamble.length,
+        l.tpc.start,
+        l.tpc.length,
+        l.tfci2.start,
+        l.tfci2.length,
+        l.data2.start,
+        l.data2.length,
+        l.guard.start,
+        l.guard.length,
+        l.bits1,
+        l.bits2,
+    ];
+    printing::form(
+        out,
+        at,
+        b"parts #+# #+# #+# #+# #+# #+# #+# bits # #\n",
+        0,
+        &numbers,
+    )
 }
 
-pub fn parts(out: &mut [u8; 4096], at: usize, number: u64, text: &[u8]) -> usize {
-    if !numbers::fit(text, b"ndnnn") {
-        return say::expected(out, at, number, b"parts TYPE up|down FACTOR TFCI TPC");
-    }
+pub fn parts(out: &mut [u8; 4096], at: usize, v: Values) -> usize {
     match timeslots::parts(
-        numbers::number_at(text, 1),
-        numbers::direction_at(text, 2),
-        numbers::number_at(text, 3),
-        numbers::number_at(text, 4),
-        numbers::number_at(text, 5),
+        v.first,
+        numbers::direction(v.second),
+        v.third,
+        v.fourth,
+        v.fifth,
     ) {
         PartsAnswer::Refused(n) => say::refused(out, at, n),
         PartsAnswer::Parts(l) => layout(out, at, l),
     }
 }
 
-fn symbol(out: &mut [u8; 4096], at: usize, s: Symbol) -> usize {
+fn symbol(s: Symbol) -> Reply {
     match s {
-        Symbol::Data1(k) => say::named(out, at, b"data1", k),
-        Symbol::Tfci1(k) => say::named(out, at, b"tfci1", k),
-        Symbol::Tpc(k) => say::named(out, at, b"tpc", k),
-        Symbol::Tfci2(k) => say::named(out, at, b"tfci2", k),
-        Symbol::Data2(k) => say::named(out, at, b"data2", k),
+        Symbol::Data1(k) => replies::one(replies::DATA1, k),
+        Symbol::Tfci1(k) => replies::one(replies::TFCI1, k),
+        Symbol::Tpc(k) => replies::one(replies::TPC, k),
+        Symbol::Tfci2(k) => replies::one(replies::TFCI2, k),
+        Symbol::Data2(k) => replies::one(replies::DATA2, k),
     }
 }
 
-fn chip(out: &mut [u8; 4096], at: usize, a: ChipAnswer) -> usize {
-    match a {
-        ChipAnswer::Refused(n) => say::refused(out, at, n),
-        ChipAnswer::Midamble(k) => say::named(out, at, b"midamble", k),
-        ChipAnswer::Guard(k) => say::named(out, at, b"guard", k),
-        ChipAnswer::Symbol(s) => symbol(out, at, s),
+pub fn at_chip(v: Values) -> Reply {
+    let d = numbers::direction(v.second);
+    match timeslots::at(v.first, d, v.third, v.fourth, v.fifth, v.sixth) {
+        AtAnswer::Refused(n) => replies::refused(n),
+        AtAnswer::Midamble(k) => replies::one(replies::MIDAMBLE, k),
+        AtAnswer::Guard(k) => replies::one(replies::GUARD, k),
+        AtAnswer::Symbol(s) => symbol(s),
     }
-}
-
-pub fn at_chip(out: &mut [u8; 4096], at: usize, number: u64, text: &[u8]) -> usize {
-    if !numbers::fit(text, b"ndnnnn") {
-        return say::expected(out, at, number, b"at TYPE up|down FACTOR TFCI TPC CHIP");
-    }
-    let found = timeslots::at(
-        numbers::number_at(text, 1),
-        numbers::direction_at(text, 2),
-        numbers::number_at(text, 3),
-        numbers::number_at(text, 4),
-        numbers::number_at(text, 5),
-        numbers::number_at(text, 6),
-    );
-    chip(out, at, found)
 }

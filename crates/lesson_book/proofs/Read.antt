@@ -1,35 +1,45 @@
--- The calls with their words read. Cited by the proofs of `opened`, `request`, `booked`, `cancelled` and `closed`.
+-- A booking with its values taken apart, and the calls by number. Cited by the proofs of `request`, `booked` and `asked`.
 -- Assumes nothing.
-use mathlib.Core.Path.{_≡_}
-use mathlib.Core.List.{List}
+use mathlib.Core.Path.{_≡_, sym, ap, _∙_}
+use mathlib.Core.Bool.{Bool, cond}
 use Prim.Native.Nat.{ℕ}
-use Rattle.timeslots.specs.declared.Direction.{Direction}
+use borrow.Author.Tests.{ne-eqb}
+use lib.Dec.{eqb}
+use Rattle.conditions.specs.declared.Direction.{Direction}
 use Rattle.classbook.specs.declared.Book.{Book}
 use Rattle.classbook.specs.declared.Request.{Request}
-use Rattle.classbook.specs.Calls.{openAnswer, bookAnswer, cancelAnswer, closeAnswer}
-use Rattle.lesson_words.specs.Numbers.{valueAt, directionAt}
-use Rattle.lesson_book.specs.Asked.{openAsked, requestOf, bookAsked, cancelAsked, closeAsked}
+use Rattle.classbook.specs.declared.BookAnswer.{BookAnswer}
+use Rattle.classbook.specs.Calls.{bookAnswer}
+use Rattle.lesson_words.specs.declared.numbers.Values.{Values}
+use Rattle.lesson_words.specs.Numbers.{directionBy}
+use Rattle.lesson_book.specs.Asked.{openAsked, requestOf, bookAsked, cancelAsked, closeAsked, askedBy}
 
-module _ (text : List ℕ) (b : Book) where
-  pub open-read : (a1 a2 a3 a4 a5 a6 : ℕ) → a1 ≡ valueAt 1 text → a2 ≡ valueAt 2 text → a3 ≡ valueAt 3 text → a4 ≡ valueAt 4 text → a5 ≡ valueAt 5 text → a6 ≡ valueAt 6 text
-      → openAnswer b a1 a2 a3 a4 a5 a6 ≡ openAsked text b
-  unfolding openAsked
-  open-read a1 a2 a3 a4 a5 a6 e1 e2 e3 e4 e5 e6 = rw (e1, e2, e3, e4, e5, e6)
+-- a request with this direction
+abbrev asking : Values → Direction → Request
+asking v d =
+    record {
+      timeslot = v .second;
+      direction = d;
+      burst = v .fourth;
+      factor = v .fifth;
+      index = v .sixth;
+      user = v .seventh;
+      tfci = v .eighth;
+      tpc = v .ninth;
+    }
 
-  pub book-read : (a1 : ℕ) (x : Request) → a1 ≡ valueAt 1 text → x ≡ requestOf text → bookAnswer b a1 x ≡ bookAsked text b
-  unfolding bookAsked
-  book-read a1 x e q = rw (e, q)
-
-  pub cancel-read : (a1 a2 a3 a4 : ℕ) → a1 ≡ valueAt 1 text → a2 ≡ valueAt 2 text → a3 ≡ valueAt 3 text → a4 ≡ valueAt 4 text → cancelAnswer b a1 a2 a3 a4 ≡ cancelAsked text b
-  unfolding cancelAsked
-  cancel-read a1 a2 a3 a4 e1 e2 e3 e4 = rw (e1, e2, e3, e4)
-
-  pub close-read : (a1 : ℕ) → a1 ≡ valueAt 1 text → closeAnswer b a1 ≡ closeAsked text b
-  unfolding closeAsked
-  close-read a1 e = rw e
-
-pub request-read : (text : List ℕ) (t : ℕ) (d : Direction) (y f i u c p : ℕ) → t ≡ valueAt 2 text → d ≡ directionAt 3 text → y ≡ valueAt 4 text → f ≡ valueAt 5 text
-    → i ≡ valueAt 6 text → u ≡ valueAt 7 text → c ≡ valueAt 8 text → p ≡ valueAt 9 text
-    → record { timeslot = t; direction = d; burst = y; factor = f; index = i; user = u; tfci = c; tpc = p } ≡ requestOf text
+pub request-read : (v : Values) (d : Direction) → d ≡ directionBy (v .third) → asking v d ≡ requestOf v
 unfolding requestOf
-request-read text t d y f i u c p e1 e2 e3 e4 e5 e6 e7 e8 = rw (e1, e2, e3, e4, e5, e6, e7, e8)
+request-read v d e = ap (asking v) e
+
+pub book-read : (v : Values) (b : Book) (x : Request) → x ≡ requestOf v → bookAnswer b (v .first) x ≡ bookAsked v b
+unfolding bookAsked
+book-read v b x e = ap (bookAnswer b (v .first)) e
+
+-- a number that is known, and one that is none of three
+pub asked-as : (call k : ℕ) (v : Values) (b : Book) (r : BookAnswer) → call ≡ k → r ≡ askedBy k v b → r ≡ askedBy call v b
+asked-as call k v b r n e = e ∙ ap (λ (i : ℕ). askedBy i v b) (sym n)
+
+pub asked-last : (call : ℕ) (v : Values) (b : Book) (r : BookAnswer) → (call ≡ 0 → ⊥) → (call ≡ 1 → ⊥) → (call ≡ 2 → ⊥) → r ≡ closeAsked v b → r ≡ askedBy call v b
+unfolding askedBy
+asked-last call v b r n0 n1 n2 e = rw (ne-eqb call 0 n0, ne-eqb call 1 n1, ne-eqb call 2 n2) e

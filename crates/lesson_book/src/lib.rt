@@ -1,67 +1,66 @@
-// The calls of a lesson that change the class book (docs/LESSONS.md): a line's words read, and the call of the crate `classbook` made with them.
-// Whether the words are those of the call is asked before, by `lesson_words::numbers::fit`; here a word that is no number counts as 0.
+// The calls of a lesson that change the class book (docs/LESSONS.md), made with what a line's words stand for.
+// Whether the words are those of the call is asked before, by `lesson_words::numbers::read`.
 ghost use mathlib.Core.Path.{_≡_};
-ghost use Rattle.lesson_book.specs.Asked.{openAsked, requestOf, bookAsked, cancelAsked, closeAsked};
+ghost use Rattle.lesson_book.specs.Asked.{openAsked, requestOf, bookAsked, cancelAsked, closeAsked, askedBy};
 use classbook::Book;
 use classbook::BookAnswer;
 use classbook::Request;
 use lesson_words::numbers;
+use lesson_words::numbers::Values;
 
 // `open SEAT CELL CASE K LONG SHORT`
-pub fn opened(text: &[u8], b: Book) -> BookAnswer
-    ensures { λ r. ⌜ r ≡ openAsked (now (text .entry)) b ⌝ }
+fn opened(v: Values, b: Book) -> BookAnswer
+    ensures { λ r. ⌜ r ≡ openAsked v b ⌝ }
 {
-    classbook::open_seat(
-        b,
-        numbers::number_at(text, 1),
-        numbers::number_at(text, 2),
-        numbers::number_at(text, 3),
-        numbers::number_at(text, 4),
-        numbers::number_at(text, 5),
-        numbers::number_at(text, 6),
-    )
+    classbook::open_seat(b, v.first, v.second, v.third, v.fourth, v.fifth, v.sixth)
 }
 
 // The request that the words behind `book SEAT` make.
-fn request(text: &[u8]) -> Request
-    ensures { λ r. ⌜ r ≡ requestOf (now (text .entry)) ⌝ }
+fn request(v: Values) -> Request
+    ensures { λ r. ⌜ r ≡ requestOf v ⌝ }
 {
     Request {
-        timeslot: numbers::number_at(text, 2),
-        direction: numbers::direction_at(text, 3),
-        burst: numbers::number_at(text, 4),
-        factor: numbers::number_at(text, 5),
-        index: numbers::number_at(text, 6),
-        user: numbers::number_at(text, 7),
-        tfci: numbers::number_at(text, 8),
-        tpc: numbers::number_at(text, 9),
+        timeslot: v.second,
+        direction: numbers::direction(v.third),
+        burst: v.fourth,
+        factor: v.fifth,
+        index: v.sixth,
+        user: v.seventh,
+        tfci: v.eighth,
+        tpc: v.ninth,
     }
 }
 
 // `book SEAT SLOT up|down TYPE FACTOR INDEX USER TFCI TPC`
-pub fn booked(text: &[u8], b: Book) -> BookAnswer
-    ensures { λ r. ⌜ r ≡ bookAsked (now (text .entry)) b ⌝ }
+fn booked(v: Values, b: Book) -> BookAnswer
+    ensures { λ r. ⌜ r ≡ bookAsked v b ⌝ }
 {
-    let x = request(text);
-    classbook::book_code(b, numbers::number_at(text, 1), x)
+    let x = request(v);
+    classbook::book_code(b, v.first, x)
 }
 
 // `cancel SEAT SLOT FACTOR INDEX`
-pub fn cancelled(text: &[u8], b: Book) -> BookAnswer
-    ensures { λ r. ⌜ r ≡ cancelAsked (now (text .entry)) b ⌝ }
+fn cancelled(v: Values, b: Book) -> BookAnswer
+    ensures { λ r. ⌜ r ≡ cancelAsked v b ⌝ }
 {
-    classbook::cancel_code(
-        b,
-        numbers::number_at(text, 1),
-        numbers::number_at(text, 2),
-        numbers::number_at(text, 3),
-        numbers::number_at(text, 4),
-    )
+    classbook::cancel_code(b, v.first, v.second, v.third, v.fourth)
 }
 
 // `close SEAT`
-pub fn closed(text: &[u8], b: Book) -> BookAnswer
-    ensures { λ r. ⌜ r ≡ closeAsked (now (text .entry)) b ⌝ }
+fn closed(v: Values, b: Book) -> BookAnswer
+    ensures { λ r. ⌜ r ≡ closeAsked v b ⌝ }
 {
-    classbook::close_seat(b, numbers::number_at(text, 1))
+    classbook::close_seat(b, v.first)
+}
+
+// One of the four by its number: 0 opens, 1 books, 2 cancels, and any other closes.
+pub fn asked(call: u32, v: Values, b: Book) -> BookAnswer
+    ensures { λ r. ⌜ r ≡ askedBy call v b ⌝ }
+{
+    match call {
+        0 => opened(v, b),
+        1 => booked(v, b),
+        2 => cancelled(v, b),
+        _ => closed(v, b),
+    }
 }

@@ -13,8 +13,8 @@ use lib.ListN.{length, drop, getD, drop-of-length-le}
 use lib.Seq.{drop-cons}
 use Rattle.laws.specs.Lists.{every}
 use Rattle.laws.proofs.Bools.{and-true as both}
-use Rattle.lesson_words.specs.declared.numbers.Numeral.the-variants.{Of, Not}
-use Rattle.lesson_words.specs.Numbers.{isDigit, valueFrom, isNone, isNumeral, choose, numeralOf}
+use Rattle.lesson_words.specs.declared.numbers.Meaning.{Meaning}
+use Rattle.lesson_words.specs.Numbers.{isDigit, valueFrom, isNone, isNumeral, valueIf, numeralOf}
 use Rattle.lesson_words.specs.Inside.{Near}
 
 near-digit : (a b d : ℕ) → Near a b → Near (a * 10 + d) (b * 10 + d)
@@ -78,22 +78,29 @@ and-false : (b : Bool) → (b && false) ≡ false
 and-false true = refl
 and-false false = refl
 
-no-numeral : (l : List ℕ) → isNumeral l ≡ false → Not ≡ numeralOf l
-unfolding numeralOf choose
-no-numeral l e = sym (ap (λ (b : Bool). choose b (Of (valueFrom 0 l)) Not) e)
+-- what a word is that is no number, and one that is
+abbrev none : Meaning
+none = record { fit = false; value = 0 }
+
+abbrev of : ℕ → Meaning
+of v = record { fit = true; value = v }
+
+no-numeral : (l : List ℕ) → isNumeral l ≡ false → none ≡ numeralOf l
+unfolding numeralOf valueIf
+no-numeral l e = sym (ap (λ (b : Bool). valueIf b (valueFrom 0 l)) e)
 
 -- nothing, something that is no digit, and too large a number
-pub not-none : (l : List ℕ) → length l ≡ 0 → Not ≡ numeralOf l
+pub not-none : (l : List ℕ) → length l ≡ 0 → none ≡ numeralOf l
 unfolding isNumeral isNone
 not-none l h = no-numeral l (ap (λ (n : ℕ). not (eqb n 0) && (every isDigit l && leb (valueFrom 0 l) 4294967295)) h)
 
-pub not-digits : (l : List ℕ) → false ≡ every isDigit l → Not ≡ numeralOf l
+pub not-digits : (l : List ℕ) → false ≡ every isDigit l → none ≡ numeralOf l
 unfolding isNumeral
 not-digits l h =
     no-numeral l
     (ap (λ (b : Bool). not (isNone l) && (b && leb (valueFrom 0 l) 4294967295)) (sym h) ∙ and-false (not (isNone l)))
 
-pub not-small : (l : List ℕ) (v : ℕ) → 4294967295 < v → Near v (valueFrom 0 l) → Not ≡ numeralOf l
+pub not-small : (l : List ℕ) (v : ℕ) → 4294967295 < v → Near v (valueFrom 0 l) → none ≡ numeralOf l
 unfolding isNumeral
 not-small l v h n =
     let large : 4294967295 < valueFrom 0 l = ⊎-elim (λ e. subst (λ (x : ℕ). 4294967295 < x) e h) (λ e. omega (arith, e .1)) n in
@@ -102,15 +109,15 @@ not-small l v h n =
     ∙ ap (λ (b : Bool). not (isNone l) && b) (and-false (every isDigit l)) ∙ and-false (not (isNone l)))
 
 -- a number
-pub is-number : (l : List ℕ) (v : ℕ) → (length l ≡ 0 → ⊥) → true ≡ every isDigit l → v ≤ 4294967295 → Near v (valueFrom 0 l) → Of v ≡ numeralOf l
-unfolding numeralOf choose isNumeral isNone
+pub is-number : (l : List ℕ) (v : ℕ) → (length l ≡ 0 → ⊥) → true ≡ every isDigit l → v ≤ 4294967295 → Near v (valueFrom 0 l) → of v ≡ numeralOf l
+unfolding numeralOf valueIf isNumeral isNone
 is-number l v some digits small n =
     let same : v ≡ valueFrom 0 l = ⊎-elim (λ e. e) (λ e. absurd (omega (arith, e .0))) n in
     let fits : valueFrom 0 l ≤ 4294967295 = subst (λ (x : ℕ). x ≤ 4294967295) same small in
     let good : isNumeral l ≡ true =
     ap (λ (b : Bool). not b && (every isDigit l && leb (valueFrom 0 l) 4294967295)) (ne-eqb _ _ some)
     ∙ ap (λ (b : Bool). b && leb (valueFrom 0 l) 4294967295) (sym digits) ∙ le-leb _ _ fits in
-    ap Of same ∙ sym (ap (λ (b : Bool). choose b (Of (valueFrom 0 l)) Not) good)
+    ap of same ∙ sym (ap (λ (b : Bool). valueIf b (valueFrom 0 l)) good)
 
 pub digit-low : (b : ℕ) → isDigit b ≡ true → 48 ≤ b
 unfolding isDigit

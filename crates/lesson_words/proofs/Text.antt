@@ -3,15 +3,14 @@
 use mathlib.Core.Path.{_≡_, refl, sym, ap, _∙_}
 use mathlib.Core.Bool.{Bool, true, false, cond, _&&_}
 use mathlib.Core.List.{List, [], _∷_}
-use Prim.Native.Nat.{ℕ, zero, suc, _+_, _-_, _<_, _≤_}
-use native.Mathlib.Nat.{not-suc-le-zero}
+use Prim.Native.Nat.{ℕ, suc, _+_, _-_, _<_, _≤_}
 use native.Mathlib.Numerals.{add-one}
 use native.Mathlib.Omega.{arith}
 use borrow.Author.Tests.{eq-eqb, ne-eqb}
 use lib.Dec.{eqb}
 use lib.ListN.{length, take, drop, getD, drop-of-length-le}
 use lib.Seq.{drop-cons, drop-drop}
-use Rattle.lesson_words.specs.Words.{until, isInk, isBlank, inkOf, wordIn, restOf, wordOf, sameText}
+use Rattle.lesson_words.specs.Words.{until, isInk, isBlankByte, inkOf, wordIn, restOf, sameText}
 
 module _ (p : ℕ → Bool) (l : List ℕ) (i w : ℕ) where
   -- the test holds here
@@ -37,36 +36,25 @@ module _ (p : ℕ → Bool) (l : List ℕ) (i w : ℕ) where
       omega (arith, z)
 
 -- one word more is passed: from `at` to its first byte, and from there to the blank behind it
-module _ (l : List ℕ) (at from to : ℕ) (start : from ≡ at + until isInk (drop at l)) (end : to ≡ from + until isBlank (drop from l)) where
+module _ (l : List ℕ) (at from to : ℕ) (start : from ≡ at + until isInk (drop at l)) (end : to ≡ from + until isBlankByte (drop from l)) where
   ink-at : inkOf (drop at l) ≡ drop from l
   unfolding inkOf
   ink-at = drop-drop (until isInk (drop at l)) at l ∙ ap (λ (k : ℕ). drop k l) (sym start)
 
-  rest-at : restOf (drop at l) ≡ drop to l
+  -- and what stands behind it
+  pub rest-at : drop to l ≡ restOf (drop at l)
   unfolding restOf
   rest-at =
-      ap (λ (m : List ℕ). drop (until isBlank m) m) ink-at ∙ drop-drop (until isBlank (drop from l)) from l
-      ∙ ap (λ (k : ℕ). drop k l) (sym end)
+      sym
+      (ap (λ (m : List ℕ). drop (until isBlankByte m) m) ink-at ∙ drop-drop (until isBlankByte (drop from l)) from l
+      ∙ ap (λ (k : ℕ). drop k l) (sym end))
 
   -- what stands between is the word
   pub word-at : take (to - from) (drop from l) ≡ wordIn (drop at l)
   unfolding wordIn
   word-at =
-      let e : to - from ≡ until isBlank (drop from l) = omega (arith, end) in
-      ap (λ (k : ℕ). take k (drop from l)) e ∙ sym (ap (λ (m : List ℕ). take (until isBlank m) m) ink-at)
-
-  -- and of the words that were to be passed one less is left
-  pub next : (left : ℕ) (w : List ℕ) → 0 < left → wordOf left (drop at l) ≡ w → wordOf (left - 1) (drop to l) ≡ w
-  unfolding wordOf
-  next zero w h e = absurd (not-suc-le-zero h)
-  next (suc k) w h e =
-      let less : suc k - 1 ≡ k = omega arith in
-      ap (λ (n : ℕ). wordOf n (drop to l)) less ∙ ap (λ (m : List ℕ). wordOf k m) (sym rest-at) ∙ e
-
--- none is left to be passed
-pub first : (l w : List ℕ) (left : ℕ) → left ≤ 0 → wordOf left l ≡ w → wordIn l ≡ w
-unfolding wordOf
-first l w left h e = let z : 0 ≡ left = omega arith in ap (λ (n : ℕ). wordOf n l) z ∙ e
+      let e : to - from ≡ until isBlankByte (drop from l) = omega (arith, end) in
+      ap (λ (k : ℕ). take k (drop from l)) e ∙ sym (ap (λ (m : List ℕ). take (until isBlankByte m) m) ink-at)
 
 and-false : (b : Bool) → (b && false) ≡ false
 and-false true = refl

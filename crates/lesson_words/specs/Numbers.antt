@@ -1,16 +1,16 @@
--- docs/LESSONS.md, "Lines": what a number is, and a row of the digits 0 and 1. Cited by the promises of `numbers` and by the crates `lesson_book` and `bench`.
+-- docs/LESSONS.md, "Lines": what the words behind a call's name stand for. Cited by the promises of `numbers` and by the crates `lesson_book` and `bench`.
 -- Assumes nothing.
 use mathlib.Core.Bool.{Bool, true, false, not, _&&_, _||_, cond}
 use mathlib.Core.List.{List, [], _∷_}
 use Prim.Native.Nat.{ℕ, suc, _+_, _-_, _*_}
 use lib.Dec.{eqb, leb}
-use lib.ListN.{length}
+use lib.ListN.{length, getD, set, replicate}
 use Rattle.laws.specs.Lists.{every}
-use Rattle.timeslots.specs.declared.Direction.{Direction}
-use Rattle.timeslots.specs.declared.Direction.the-variants.{Up, Down}
-use Rattle.lesson_words.specs.Words.{sameText, wordOf}
-use Rattle.lesson_words.specs.declared.numbers.Numeral.{Numeral}
-use Rattle.lesson_words.specs.declared.numbers.Numeral.the-variants.{Of, Not}
+use Rattle.conditions.specs.declared.Direction.{Direction}
+use Rattle.conditions.specs.declared.Direction.the-variants.{Up, Down}
+use Rattle.lesson_words.specs.Words.{wordIn, restOf, isText}
+use Rattle.lesson_words.specs.declared.numbers.Meaning.{Meaning}
+use Rattle.lesson_words.specs.declared.numbers.Values.{Values}
 
 -- "the digits 0 to 9"
 unfoldable pub isDigit : ℕ → Bool
@@ -29,13 +29,6 @@ isNone l = eqb (length l) 0
 unfoldable pub isNumeral : List ℕ → Bool
 isNumeral l = not (isNone l) && (every isDigit l && leb (valueFrom 0 l) 4294967295)
 
-unfoldable pub choose : Bool → Numeral → Numeral → Numeral
-choose true a b = a
-choose false a b = b
-
-unfoldable pub numeralOf : List ℕ → Numeral
-numeralOf l = choose (isNumeral l) (Of (valueFrom 0 l)) Not
-
 -- 0 or 1
 unfoldable pub isBit : ℕ → Bool
 isBit b = eqb b 48 || eqb b 49
@@ -44,40 +37,59 @@ isBit b = eqb b 48 || eqb b 49
 unfoldable pub isRow : List ℕ → Bool
 isRow l = not (isNone l) && every isBit l
 
-unfoldable pub isOf : Numeral → Bool
-isOf (Of v) = true
-isOf Not = false
+-- a word that is what is expected has its value, any other 0
+unfoldable pub valueIf : Bool → ℕ → Meaning
+valueIf true v = record { fit = true; value = v }
+valueIf false v = record { fit = false; value = 0 }
 
--- `up` and `down`
-unfoldable pub isUp : List ℕ → Bool
-isUp w = sameText w (117 ∷ 112 ∷ [])
+unfoldable pub numeralOf : List ℕ → Meaning
+numeralOf w = valueIf (isNumeral w) (valueFrom 0 w)
 
-unfoldable pub isDown : List ℕ → Bool
-isDown w = sameText w (100 ∷ 111 ∷ 119 ∷ 110 ∷ [])
+-- `down` is 1 and `up` is 0
+unfoldable pub turnOf : List ℕ → Meaning
+turnOf w = cond (isText "down" w) (valueIf true 1) (valueIf (isText "up" w) 0)
 
-unfoldable pub isDirection : List ℕ → Bool
-isDirection w = isUp w || isDown w
+-- a row has no value: it is read where it stands
+unfoldable pub rowOf : List ℕ → Meaning
+rowOf w = valueIf (isRow w) 0
 
--- what is expected of a word: `n` (110) a number, `d` (100) a direction, any other letter a row
-unfoldable pub fitsKind : ℕ → List ℕ → Bool
-fitsKind kind w = cond (eqb kind 110) (isOf (numeralOf w)) (cond (eqb kind 100) (isDirection w) (isRow w))
+-- what is expected of a word, in a letter: `n` (110) a number, `d` (100) a direction, any other a row
+unfoldable pub meantBy : ℕ → List ℕ → Meaning
+meantBy kind w = cond (eqb kind 110) (numeralOf w) (cond (eqb kind 100) (turnOf w) (rowOf w))
 
--- the words from the i-th on are of these kinds, and no more follow
-unfoldable pub fits : List ℕ → ℕ → List ℕ → Bool
-fits [] i text = isNone (wordOf i text)
-fits (kind ∷ l) i text = fitsKind kind (wordOf i text) && fits l (suc i) text
+-- the words of a text are of these kinds, and no more follow
+unfoldable pub fits : List ℕ → List ℕ → Bool
+fits [] l = isNone (wordIn l)
+fits (kind ∷ kinds) l = meantBy kind (wordIn l) .fit && fits kinds (restOf l)
 
-unfoldable pub valueOf : Numeral → ℕ
-valueOf (Of v) = v
-valueOf Not = 0
+-- the value of each goes to the next place of v, from place i on
+unfoldable pub valuesFrom : ℕ → List ℕ → List ℕ → List ℕ → List ℕ
+valuesFrom i [] l v = v
+valuesFrom i (kind ∷ kinds) l v = valuesFrom (suc i) kinds (restOf l) (set v i (meantBy kind (wordIn l) .value))
 
--- word i as a number, and as a direction
-unfoldable pub valueAt : ℕ → List ℕ → ℕ
-valueAt i text = valueOf (numeralOf (wordOf i text))
+-- nine places by name
+unfoldable pub nineOf : List ℕ → Values
+nineOf v =
+    record {
+      first = getD v 0 0;
+      second = getD v 1 0;
+      third = getD v 2 0;
+      fourth = getD v 3 0;
+      fifth = getD v 4 0;
+      sixth = getD v 5 0;
+      seventh = getD v 6 0;
+      eighth = getD v 7 0;
+      ninth = getD v 8 0;
+    }
+
+-- the values of a text's words: 0 in the places that no word takes
+unfoldable pub valuesOf : List ℕ → List ℕ → Values
+valuesOf kinds l = nineOf (valuesFrom 0 kinds l (replicate 9 0))
 
 unfoldable pub directionIf : Bool → Direction
 directionIf true = Down
 directionIf false = Up
 
-unfoldable pub directionAt : ℕ → List ℕ → Direction
-directionAt i text = directionIf (isDown (wordOf i text))
+-- a direction by its value
+unfoldable pub directionBy : ℕ → Direction
+directionBy value = directionIf (eqb value 1)

@@ -2,25 +2,23 @@
 -- Assumes nothing.
 use mathlib.Core.Bool.{Bool, true, false, not, _&&_, _||_, cond}
 use mathlib.Core.List.{List, [], _∷_}
-use Prim.Native.Nat.{ℕ, zero, suc}
+use Prim.Native.Nat.{ℕ, suc}
+use Prim.Native.String.{String}
 use lib.Dec.{eqb}
 use lib.ListN.{take, drop}
+use Rattle.laws.specs.Text.{bytes}
 
--- "A line ends in LF"
-unfoldable pub isEnd : ℕ → Bool
-isEnd b = eqb b 10
-
--- "`#` starts a comment wherever it stands"
-unfoldable pub isHash : ℕ → Bool
-isHash b = eqb b 35
+-- one byte: LF is 10, "#" is 35
+unfoldable pub isByte : ℕ → ℕ → Bool
+isByte x b = eqb b x
 
 -- "blanks: space, tab and CR"
-unfoldable pub isBlank : ℕ → Bool
-isBlank b = eqb b 32 || (eqb b 9 || eqb b 13)
+unfoldable pub isBlankByte : ℕ → Bool
+isBlankByte b = eqb b 32 || (eqb b 9 || eqb b 13)
 
 -- what a word is made of
 unfoldable pub isInk : ℕ → Bool
-isInk b = not (isBlank b)
+isInk b = not (isBlankByte b)
 
 -- how many stand before the first that meets the test; all, where none does
 unfoldable pub until : (ℕ → Bool) → List ℕ → ℕ
@@ -33,16 +31,11 @@ inkOf l = drop (until isInk l) l
 
 -- its first word, empty where it has none
 unfoldable pub wordIn : List ℕ → List ℕ
-wordIn l = take (until isBlank (inkOf l)) (inkOf l)
+wordIn l = take (until isBlankByte (inkOf l)) (inkOf l)
 
 -- what stands behind that
 unfoldable pub restOf : List ℕ → List ℕ
-restOf l = drop (until isBlank (inkOf l)) (inkOf l)
-
--- word i, counted from 0; empty where there are fewer
-unfoldable pub wordOf : ℕ → List ℕ → List ℕ
-wordOf zero l = wordIn l
-wordOf (suc i) l = wordOf i (restOf l)
+restOf l = drop (until isBlankByte (inkOf l)) (inkOf l)
 
 -- byte for byte
 unfoldable pub sameText : List ℕ → List ℕ → Bool
@@ -50,3 +43,7 @@ sameText [] [] = true
 sameText [] (c ∷ m) = false
 sameText (b ∷ l) [] = false
 sameText (b ∷ l) (c ∷ m) = eqb b c && sameText l m
+
+-- a word is this one
+unfoldable pub isText : String → List ℕ → Bool
+isText text word = sameText word (bytes text)

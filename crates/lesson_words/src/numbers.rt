@@ -1,15 +1,16 @@
-// What the words behind a call's name mean: numbers, directions, and rows of the digits 0 and 1.
+// What the words behind a call's name stand for: numbers, directions, and rows of the digits 0 and 1. A line's words are read once, by `read`.
 ghost use mathlib.Core.Path.{_≡_};
 ghost use Prim.Native.Nat.{_+_, _-_, _*_, _≤_};
-ghost use Rattle.lesson_words.specs.Numbers.{isDigit, numeralOf, isOf, isRow, isDirection, fitsKind, fits, valueAt, directionAt};
+ghost use lib.ListN.{length, set};
+ghost use Rattle.lesson_words.specs.Numbers.{isDigit, numeralOf, turnOf, rowOf, meantBy, fits, nineOf, valuesOf, directionBy};
 ghost use Rattle.lesson_words.specs.Inside.{Near};
 use crate::words;
-use timeslots::Direction;
+use conditions::Direction;
 
-// A word as a number, if it is one.
-pub enum Numeral {
-    Of(u32),
-    Not,
+// Whether a word is what is expected, and its value.
+pub struct Meaning {
+    pub fit: bool,
+    pub value: u32,
 }
 
 fn is_digit(b: u8) -> bool
@@ -31,101 +32,165 @@ fn grown(value: u64, digit: u8) -> u64
 }
 
 // One or more of the digits 0 to 9, of at most 4294967295.
-pub fn number(word: &[u8]) -> Numeral
+fn number(word: &[u8]) -> Meaning
     ensures { λ r. ⌜ r ≡ numeralOf (now (word .entry)) ⌝ }
 {
     if word.len() == 0 {
-        return Numeral::Not;
+        return Meaning {
+            fit: false,
+            value: 0,
+        };
     }
     let mut value: u64 = 0;
     let mut i = 0;
     while i < word.len() {
         let b = word[i];
         if !is_digit(b) {
-            return Numeral::Not;
+            return Meaning {
+                fit: false,
+                value: 0,
+            };
         }
         value = grown(value, b);
         i += 1;
     }
     if value > 4294967295 {
-        return Numeral::Not;
+        return Meaning {
+            fit: false,
+            value: 0,
+        };
     }
-    Numeral::Of(value as u32)
+    Meaning {
+        fit: true,
+        value: value as u32,
+    }
 }
 
-// Whether a word is one or more of the digits 0 and 1.
-fn is_row(word: &[u8]) -> bool
-    ensures { λ r. ⌜ r ≡ isRow (now (word .entry)) ⌝ }
+// One or more of the digits 0 and 1.
+fn row(word: &[u8]) -> Meaning
+    ensures { λ r. ⌜ r ≡ rowOf (now (word .entry)) ⌝ }
 {
-    let mut ok = word.len() != 0;
+    let mut fit = word.len() != 0;
     let mut i = 0;
     while i < word.len() {
         let b = word[i];
-        ok = ok & ((b == b'0') | (b == b'1'));
+        fit = fit & ((b == b'0') | (b == b'1'));
         i += 1;
     }
-    ok
+    Meaning { fit, value: 0 }
 }
 
-fn is_number(word: &[u8]) -> bool
-    ensures { λ r. ⌜ r ≡ isOf (numeralOf (now (word .entry))) ⌝ }
+// `up` or `down`.
+fn turn(word: &[u8]) -> Meaning
+    ensures { λ r. ⌜ r ≡ turnOf (now (word .entry)) ⌝ }
 {
-    match number(word) {
-        Numeral::Of(_) => true,
-        Numeral::Not => false,
+    if words::same(word, b"down") {
+        return Meaning {
+            fit: true,
+            value: 1,
+        };
     }
-}
-
-fn is_direction(word: &[u8]) -> bool
-    ensures { λ r. ⌜ r ≡ isDirection (now (word .entry)) ⌝ }
-{
-    let up = words::same(word, b"up");
-    let down = words::same(word, b"down");
-    up | down
+    let fit = words::same(word, b"up");
+    Meaning { fit, value: 0 }
 }
 
 // Kinds of words: `n` a number, `d` a direction, and any other letter a row.
-fn is_kind(word: &[u8], kind: u8) -> bool
-    ensures { λ r. ⌜ r ≡ fitsKind kind (now (word .entry)) ⌝ }
+fn meant(word: &[u8], kind: u8) -> Meaning
+    ensures { λ r. ⌜ r ≡ meantBy kind (now (word .entry)) ⌝ }
 {
     if kind == b'n' {
-        return is_number(word);
+        return number(word);
     }
     if kind == b'd' {
-        return is_direction(word);
+        return turn(word);
     }
-    is_row(word)
+    row(word)
 }
 
-// Whether the words behind a call's name are as many as the call wants, and of the kinds that it wants.
-pub fn fit(text: &[u8], kinds: &[u8]) -> bool
-    ensures { λ r. ⌜ r ≡ fits (now (kinds .entry)) 1 (now (text .entry)) ⌝ }
+// A value into its place, if there is one.
+fn stored(values: [u32; 9], i: usize, value: u32) -> [u32; 9]
+    ensures { λ r. ⌜ r ≡ set values i value ⌝ }
 {
-    let mut ok = true;
+    let mut v = values;
+    if i < 9 {
+        v[i] = value;
+    }
+    v
+}
+
+// What the words of a line stand for, in their order.
+pub struct Values {
+    pub first: u32,
+    pub second: u32,
+    pub third: u32,
+    pub fourth: u32,
+    pub fifth: u32,
+    pub sixth: u32,
+    pub seventh: u32,
+    pub eighth: u32,
+    pub ninth: u32,
+}
+
+// Nine places by name.
+fn nine(v: [u32; 9]) -> Values
+    ensures { λ r. ⌜ r ≡ nineOf v ⌝ }
+{
+    Values {
+        first: v[0],
+        second: v[1],
+        third: v[2],
+        fourth: v[3],
+        fifth: v[4],
+        sixth: v[5],
+        seventh: v[6],
+        eighth: v[7],
+        ninth: v[8],
+    }
+}
+
+// The words of a line: whether they are those that a call wants, what each stands for, and where the last of them stands.
+pub struct Line {
+    pub fit: bool,
+    pub values: Values,
+    pub from: usize,
+    pub to: usize,
+}
+
+// Reads the words behind a call's name, as many as the call wants and of the kinds that it wants.
+pub fn read(text: &[u8], kinds: &[u8]) -> Line
+    ensures { λ r. ⌜ (r .fit ≡ fits (now (kinds .entry)) (now (text .entry))) × (r .values ≡ valuesOf (now (kinds .entry)) (now (text .entry))) × (r .from ≤ r .to) × (r .to ≤ length (now (text .entry))) ⌝ }
+{
+    let mut fit = true;
+    let mut places = [0u32; 9];
+    let mut from = 0;
+    let mut to = 0;
     let mut i = 0;
     while i < kinds.len() {
-        ok = ok & is_kind(words::word(text, i + 1), kinds[i]);
+        let w = words::word(text, to);
+        from = w.from;
+        to = w.to;
+        let m = meant(&text[from..to], kinds[i]);
+        fit = fit & m.fit;
+        let p = stored(places, i, m.value);
+        places = p;
         i += 1;
     }
-    let behind = words::word(text, i + 1);
-    ok & (behind.len() == 0)
-}
-
-// Word i as a number; 0 where it is none.
-pub fn number_at(text: &[u8], i: usize) -> u32
-    ensures { λ r. ⌜ r ≡ valueAt i (now (text .entry)) ⌝ }
-{
-    match number(words::word(text, i)) {
-        Numeral::Of(value) => value,
-        Numeral::Not => 0,
+    let behind = words::word(text, to);
+    fit = fit & (behind.to - behind.from == 0);
+    let values = nine(places);
+    Line {
+        fit,
+        values,
+        from,
+        to,
     }
 }
 
-// Word i as a direction: down where it is `down`.
-pub fn direction_at(text: &[u8], i: usize) -> Direction
-    ensures { λ r. ⌜ r ≡ directionAt i (now (text .entry)) ⌝ }
+// A direction by its value.
+pub fn direction(value: u32) -> Direction
+    ensures { λ r. ⌜ r ≡ directionBy value ⌝ }
 {
-    if words::same(words::word(text, i), b"down") {
+    if value == 1 {
         return Direction::Down;
     }
     Direction::Up

@@ -1,17 +1,19 @@
 // Lines end in LF; words are what stands between blanks, up to a comment (docs/LESSONS.md, "Lines").
+// No call of document 01: public for the crate bench only, which asks from a place within the text.
 ghost use mathlib.Core.Path.{_≡_};
-ghost use Prim.Native.Nat.{_+_, _≤_};
-ghost use lib.ListN.{length, drop};
-ghost use Rattle.lesson_words.specs.Words.{isEnd, isBlank, isInk, isHash, until, wordIn, wordOf, sameText};
+ghost use Prim.Native.Nat.{_+_, _-_, _≤_};
+ghost use lib.ListN.{length, take, drop};
+ghost use Rattle.lesson_words.specs.Words.{isByte, isBlankByte, isInk, until, wordIn, restOf, sameText};
+ghost use Rattle.lesson_words.specs.Inside.{numberIn, kindsIn};
 
-// The place of the first LF from a place on, or the end. No call of document 01: public for the crate bench only, which asks from a place within the block.
-pub fn line_end(bytes: &[u8], from: usize) -> usize
+// The first place from `from` on that holds a byte, or the end.
+pub fn find(bytes: &[u8], from: usize, byte: u8) -> usize
     requires { ⌜ from ≤ length (now bytes) ⌝ }
-    ensures { λ r. ⌜ (r ≤ length (now (bytes .entry))) × (r ≡ from + until isEnd (drop from (now (bytes .entry)))) ⌝ }
+    ensures { λ r. ⌜ (r ≤ length (now (bytes .entry))) × (r ≡ from + until (isByte byte) (drop from (now (bytes .entry)))) ⌝ }
 {
     let mut i = from;
     while i < bytes.len() {
-        if bytes[i] == b'\n' {
+        if bytes[i] == byte {
             return i;
         }
         i += 1;
@@ -21,23 +23,9 @@ pub fn line_end(bytes: &[u8], from: usize) -> usize
 
 // Space, tab and CR.
 fn is_blank(b: u8) -> bool
-    ensures { λ r. ⌜ r ≡ isBlank b ⌝ }
+    ensures { λ r. ⌜ r ≡ isBlankByte b ⌝ }
 {
     (b == b' ') | ((b == b'\t') | (b == b'\r'))
-}
-
-// How many bytes stand before the first `#`.
-pub fn comment(line: &[u8]) -> usize
-    ensures { λ r. ⌜ (r ≤ length (now (line .entry))) × (r ≡ until isHash (now (line .entry))) ⌝ }
-{
-    let mut i = 0;
-    while i < line.len() {
-        if line[i] == b'#' {
-            return i;
-        }
-        i += 1;
-    }
-    i
 }
 
 // The first place from `from` on that holds no blank, or the end.
@@ -58,7 +46,7 @@ fn word_start(text: &[u8], from: usize) -> usize
 // The first place from `from` on that holds a blank, or the end.
 fn word_end(text: &[u8], from: usize) -> usize
     requires { ⌜ from ≤ length (now text) ⌝ }
-    ensures { λ r. ⌜ (r ≤ length (now (text .entry))) × (r ≡ from + until isBlank (drop from (now (text .entry)))) ⌝ }
+    ensures { λ r. ⌜ (r ≤ length (now (text .entry))) × (r ≡ from + until isBlankByte (drop from (now (text .entry)))) ⌝ }
 {
     let mut i = from;
     while i < text.len() {
@@ -70,28 +58,20 @@ fn word_end(text: &[u8], from: usize) -> usize
     i
 }
 
-// A place behind the first i words and before the next.
-fn behind(text: &[u8], i: usize) -> usize
-    ensures { λ r. ⌜ (r ≤ length (now (text .entry))) × (wordIn (drop r (now (text .entry))) ≡ wordOf i (now (text .entry))) ⌝ }
-{
-    let mut at = 0;
-    let mut left = i;
-    while left > 0 {
-        let from = word_start(text, at);
-        at = word_end(text, from);
-        left -= 1;
-    }
-    at
+// Where a word stands: its first place, and the place behind it.
+pub struct Span {
+    pub from: usize,
+    pub to: usize,
 }
 
-// Word i of a line, counted from 0; nothing where there are fewer.
-pub fn word(text: &[u8], i: usize) -> &[u8]
-    ensures { λ r. ⌜ now r ≡ wordOf i (now (text .entry)) ⌝ }
+// The first word from a place on; nothing, at the end of the text, where there is none.
+pub fn word(text: &[u8], at: usize) -> Span
+    requires { ⌜ at ≤ length (now text) ⌝ }
+    ensures { λ r. ⌜ (r .from ≤ r .to) × (r .to ≤ length (now (text .entry))) × (take (r .to - r .from) (drop (r .from) (now (text .entry))) ≡ wordIn (drop at (now (text .entry)))) × (drop (r .to) (now (text .entry)) ≡ restOf (drop at (now (text .entry)))) ⌝ }
 {
-    let at = behind(text, i);
     let from = word_start(text, at);
     let to = word_end(text, from);
-    &text[from..to]
+    Span { from, to }
 }
 
 // Whether two texts are the same.
@@ -109,4 +89,39 @@ pub fn same(text: &[u8], name: &[u8]) -> bool
         i += 1;
     }
     true
+}
+
+// A call's number in a table of calls, and where the kinds of its words stand there.
+pub struct Found {
+    pub number: u32,
+    pub from: usize,
+    pub to: usize,
+}
+
+// The call of this name in a table of so many: a name and the kinds of its words, and so on. The count for a name that it does not have.
+pub fn look_up(name: &[u8], table: &[u8], count: u32) -> Found
+    ensures { λ r. ⌜ (r .number ≡ numberIn count (now (name .entry)) (now (table .entry))) × (r .from ≤ r .to) × (r .to ≤ length (now (table .entry))) × (take (r .to - r .from) (drop (r .from) (now (table .entry))) ≡ kindsIn count (now (name .entry)) (now (table .entry))) ⌝ }
+{
+    let mut number = 0;
+    let mut at = 0;
+    while number < count {
+        let a = word(table, at);
+        let from = a.from;
+        let to = a.to;
+        let kinds = word(table, to);
+        if same(name, &table[from..to]) {
+            return Found {
+                number,
+                from: kinds.from,
+                to: kinds.to,
+            };
+        }
+        at = kinds.to;
+        number += 1;
+    }
+    Found {
+        number,
+        from: 0,
+        to: 0,
+    }
 }

@@ -1,8 +1,6 @@
-// Lines for standard output, and the digest of docs/COMPARISON.md. Bytes go into a lent buffer (`io::buffer()`), which is written out whenever it is full.
+// Lines for standard output. Bytes go into a lent buffer (`io::buffer()`), which is written out whenever it is full.
 // Each call takes the place of the next byte, 0 at first, and gives back the place after what it put; `flush` writes the rest. No call asks anything.
 ghost use mathlib.Core.Path.{_≡_};
-ghost use Prim.Native.Nat.{_≤_};
-ghost use Rattle.printing.specs.Digest.{step, digestOf};
 
 // Writes out the first `at` bytes of `out`, or nothing where there are fewer.
 fn write_first(out: &[u8], at: usize) {
@@ -19,10 +17,8 @@ pub fn flush(out: &[u8; 4096], at: usize) -> usize
     0
 }
 
-// One byte; the place that comes back is within the buffer or just behind it.
-pub fn put(out: &mut [u8; 4096], at: usize, b: u8) -> usize
-    ensures { λ r. ⌜ r ≤ 4096 ⌝ }
-{
+// One byte.
+pub fn put(out: &mut [u8; 4096], at: usize, b: u8) -> usize {
     if at < 4096 {
         out[at] = b;
         return at + 1;
@@ -43,84 +39,63 @@ pub fn word(out: &mut [u8; 4096], at: usize, text: &[u8]) -> usize {
     n
 }
 
-// A large number in decimal.
-pub fn large(out: &mut [u8; 4096], at: usize, value: u64) -> usize {
-    let mut text = [0u8; 20];
-    let k = io::decimal(value, &mut text);
-    word(out, at, &text[..k])
-}
-
-// A number in decimal.
-pub fn number(out: &mut [u8; 4096], at: usize, value: u32) -> usize {
-    large(out, at, value as u64)
-}
-
-// A blank and a number in decimal.
-pub fn item(out: &mut [u8; 4096], at: usize, value: u32) -> usize {
-    let n = put(out, at, b' ');
-    number(out, n, value)
-}
-
-// A blank and a large number in decimal.
-pub fn large_item(out: &mut [u8; 4096], at: usize, value: u64) -> usize {
-    let n = put(out, at, b' ');
-    large(out, n, value)
-}
-
-// ` refused N`.
-pub fn refused(out: &mut [u8; 4096], at: usize, value: u32) -> usize {
-    let n = word(out, at, b" refused");
-    item(out, n, value)
-}
-
-// A line's end.
-pub fn line(out: &mut [u8; 4096], at: usize) -> usize {
-    put(out, at, 10)
-}
-
-// A capital hexadecimal digit; 16 and more count modulo 16.
-fn glyph(value: u8) -> u8 {
-    let d = value % 16;
-    if d < 10 {
-        return 48 + d;
-    }
-    55 + d
-}
-
-// Bytes as two capital hexadecimal digits each.
-pub fn hex(out: &mut [u8; 4096], at: usize, bytes: &[u8]) -> usize {
+// The first `count` bytes of a row, or all that it has, with `base` added to each: 48 makes the digits 0 to 9 of the values 0 to 9.
+pub fn row(out: &mut [u8; 4096], at: usize, bytes: &[u8], count: u32, base: u8) -> usize {
+    let end = count as usize;
     let mut n = at;
     let mut i = 0;
     while i < bytes.len() {
-        n = put(out, n, glyph(bytes[i] / 16));
-        n = put(out, n, glyph(bytes[i]));
+        if i == end {
+            return n;
+        }
+        n = put(out, n, std::num::wrapping_add_u8(base, bytes[i]));
         i += 1;
     }
     n
 }
 
-// The digest with one number more. Both numbers are cut first, so that any two can be given.
-pub fn digest_step(d: u64, b: u64) -> u64
-    ensures { λ r. ⌜ r ≡ step d b ⌝ }
-{
-    ((d % 4294967291) * 1000003 + b % 4294967291 + 1) % 4294967291
+// A number in decimal.
+pub fn number(out: &mut [u8; 4096], at: usize, value: u64) -> usize {
+    let mut text = [0u8; 20];
+    let k = io::decimal(value, &mut text);
+    word(out, at, &text[..k])
 }
 
-fn wide(b: u8) -> u64
-    ensures { λ r. ⌜ r ≡ b ⌝ }
-{
-    b as u64
+fn wide(value: u32) -> u64 {
+    value as u64
 }
 
-// The digest of a row of bytes.
-pub fn digest(bytes: &[u8]) -> u64
-    ensures { λ r. ⌜ r ≡ digestOf (now (bytes .entry)) ⌝ }
-{
-    let mut d: u64 = 1;
+// A byte of a form: `#` stands for number k.
+fn mark(out: &mut [u8; 4096], at: usize, b: u8, numbers: &[u32], k: usize) -> usize {
+    if b != b'#' {
+        return put(out, at, b);
+    }
+    if k < numbers.len() {
+        return number(out, at, wide(numbers[k]));
+    }
+    at
+}
+
+// Line `line` of a text of forms, counted from 0, with its LF if it has one: each `#` stands for the next number, in decimal.
+pub fn form(out: &mut [u8; 4096], at: usize, text: &[u8], line: u32, numbers: &[u32]) -> usize {
+    let mut n = at;
+    let mut left = line;
+    let mut k: usize = 0;
     let mut i = 0;
-    while i < bytes.len() {
-        d = digest_step(d, wide(bytes[i]));
+    while i < text.len() {
+        let b = text[i];
+        if left == 0 {
+            n = mark(out, n, b, numbers, k);
+            if b == b'\n' {
+                return n;
+            }
+            if b == b'#' {
+                k = std::num::wrapping_add_usize(k, 1);
+            }
+        } else if b == b'\n' {
+            left -= 1;
+        }
         i += 1;
     }
-    d
+    n
 }

@@ -15,14 +15,29 @@ abbrev μ-loop : tie.MeasureT-loop
 loop-holds : tie.Need-loop-holds Inv-loop μ-loop
 loop-holds c = search needs
 
-read-once-requires : tie.Need-read-once-requires Inv-loop μ-loop
-read-once-requires c κs = search needs
+written-requires : tie.Need-written-requires Inv-loop μ-loop
+written-requires c κs = search needs
+
+read-requires : tie.Need-read-requires Inv-loop μ-loop
+read-requires c κs = search needs
 
 same-length : tie.Need-same-length Inv-loop μ-loop
 same-length c = search needs
 
 returns : tie.Need-returns Inv-loop μ-loop
 returns c = search needs
+
+count-requires : tie.Need-count-requires Inv-loop μ-loop
+count-requires c κs = search needs
+
+slice-reshare-prefix-block : tie.Need-slice-reshare-prefix-block Inv-loop μ-loop
+slice-reshare-prefix-block c = search needs
+
+slice-aggregate-block : tie.Need-slice-aggregate-block Inv-loop μ-loop
+slice-aggregate-block c = search needs
+
+block-requires : tie.Need-block-requires Inv-loop μ-loop
+block-requires c κs = search needs
 
 sub-reads : tie.Need-sub-reads Inv-loop μ-loop
 sub-reads c = search needs
@@ -46,9 +61,14 @@ all-spec =
     Inv-loop
     μ-loop
     loop-holds
-    read-once-requires
+    written-requires
+    read-requires
     same-length
     returns
+    count-requires
+    slice-reshare-prefix-block
+    slice-aggregate-block
+    block-requires
     sub-reads
     loop-less
     loop-again

@@ -17,12 +17,15 @@ answer-requires c κs = search needs
 returns : tie.Need-returns
 returns c = gathered-whole _ _ _ _ (c .before .before .before .if1 .taken) (c .answer .ensures)
 
-too-long-requires : tie.Need-too-long-requires
-too-long-requires c κs = search needs
+slice-aggregate-no-call : tie.Need-slice-aggregate-no-call
+slice-aggregate-no-call c = search needs
+
+no-call-requires : tie.Need-no-call-requires
+no-call-requires c κs = search needs
 
 returns-2 : tie.Need-returns-2
-returns-2 c = gathered-long _ _ _ _ (c .before .before .if1 .left) refl
+returns-2 c = gathered-long _ _ _ _ (c .before .before .before .if1 .left) refl
 
 pub reply-spec : {M : Type 1} → statement M
 reply-spec =
-    tie.close (tie.spec slice-aggregate-answer answer-requires returns too-long-requires returns-2)
+    tie.close (tie.spec slice-aggregate-answer answer-requires returns slice-aggregate-no-call no-call-requires returns-2)

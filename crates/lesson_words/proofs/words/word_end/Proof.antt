@@ -4,14 +4,14 @@ use mathlib.Core.Path.{_≡_, refl, sym, _∙_}
 use Prim.Native.Nat.{_+_, _-_, _≤_}
 use native.Mathlib.Omega.{arith}
 use lib.ListN.{length, drop}
-use Rattle.lesson_words.specs.Words.{until, isBlank}
+use Rattle.lesson_words.specs.Words.{until, isBlankByte}
 use Rattle.lesson_words.proofs.Text.{found, passed, nowhere}
 use borrow.Author.Needs.{needs}
 use Rattle.lesson_words.proofs.words.word_end.Statement.{statement}
 use Rattle.lesson_words.proofs.words.word_end.Tie as tie
 
 abbrev Inv-loop : tie.InvT-loop
-Inv-loop text from i₀ i = (i ≤ length text) × (i + until isBlank (drop i text) ≡ from + until isBlank (drop from text))
+Inv-loop text from i₀ i = (i ≤ length text) × (i + until isBlankByte (drop i text) ≡ from + until isBlankByte (drop from text))
 
 abbrev μ-loop : tie.MeasureT-loop
 μ-loop text from i₀ i = length text - i
@@ -28,7 +28,7 @@ is-blank-requires c κs = search needs
 returns : tie.Need-returns Inv-loop μ-loop
 returns c =
     let turning = c .before .before .before in
-    (omega arith, found isBlank _ _ _ (turning .loop-test .taken) (sym (c .before .is-blank .ensures) ∙ c .if1 .taken) (turning .before .loop .inv .1))
+    (omega arith, found isBlankByte _ _ _ (turning .loop-test .taken) (sym (c .before .is-blank .ensures) ∙ c .if1 .taken) (turning .before .loop .inv .1))
 
 add-i : tie.Need-add-i Inv-loop μ-loop
 add-i c = search needs
@@ -39,10 +39,10 @@ loop-less c = search needs
 loop-again : tie.Need-loop-again Inv-loop μ-loop
 loop-again c =
     let turning = c .before .before .before in
-    (omega arith, passed isBlank _ _ _ (turning .loop-test .taken) (sym (c .before .is-blank .ensures) ∙ c .if1 .left) (turning .before .loop .inv .1))
+    (omega arith, passed isBlankByte _ _ _ (turning .loop-test .taken) (sym (c .before .is-blank .ensures) ∙ c .if1 .left) (turning .before .loop .inv .1))
 
 returns-2 : tie.Need-returns-2 Inv-loop μ-loop
-returns-2 c = (omega arith, nowhere isBlank _ _ _ (c .loop-test .left) (c .before .loop .inv .1))
+returns-2 c = (omega arith, nowhere isBlankByte _ _ _ (c .loop-test .left) (c .before .loop .inv .1))
 
 pub word-end-spec : {M : Type 1} → statement M
 word-end-spec =

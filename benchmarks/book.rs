@@ -1,10 +1,11 @@
-//! The class book over C: the caller's 5,232 bytes go in by value, all of them are tested, and the new book comes back by value.
+//! The class book over C: the caller's 5,232 bytes go in by value, all of them are tested, and the new book comes back
+//! by value.
 
-use crate::answers::{MqBook, MqBookAnswer, BOOK_BYTES};
 use crate::dice::{same, Dice};
-use crate::library;
+use crate::limits;
 use crate::plain::book as plain;
 use crate::table::Line;
+use library::{MqBook, MqBookAnswer, BOOK_BYTES};
 use std::hint::black_box;
 
 /// What was compared, and how often each refusal came.
@@ -38,9 +39,22 @@ impl Tally {
 /// Timeslot, direction, burst type, factor, index, user, TFCI bits, TPC bits: mostly allowed.
 fn request(dice: &mut Dice) -> [u32; 8] {
     let direction = dice.one_of(&[0, 0, 0, 1]);
-    let factor = dice.one_of(if direction == 0 { &[16, 16, 16, 16, 16, 16, 8, 4, 2, 1] } else { &[16, 16, 16, 1] });
+    let factor = dice.one_of(if direction == 0 {
+        &[16, 16, 16, 16, 16, 16, 8, 4, 2, 1]
+    } else {
+        &[16, 16, 16, 1]
+    });
     let burst = dice.one_of(&[1, 1, 1, 1, 2, 3]);
-    let mut x = [dice.below(15), direction, burst, factor, 1 + dice.below(factor), 1 + dice.below(if burst == 2 { 6 } else { 16 }), dice.one_of(&[0, 4, 8, 16, 32]), 0];
+    let mut x = [
+        dice.below(15),
+        direction,
+        burst,
+        factor,
+        1 + dice.below(factor),
+        1 + dice.below(if burst == 2 { 6 } else { 16 }),
+        dice.one_of(&[0, 4, 8, 16, 32]),
+        0,
+    ];
     if dice.below(12) == 0 {
         x[dice.below(8) as usize] = dice.one_of(&[0, 1, 2, 3, 7, 15, 16, 17, 33, u32::MAX]);
     }
@@ -56,19 +70,32 @@ fn call(tally: &mut Tally, dice: &mut Dice, b: MqBook) -> MqBook {
             let [cell, sync, k] = [dice.below(130), dice.one_of(&[1, 1, 2, 2, 3]), dice.below(8)];
             let [long, short] = [dice.one_of(&[0, 8, 16, 16, 7]), dice.one_of(&[0, 3, 6, 6, 5])];
             let what = format!("open {seat} {cell} {sync} {k} {long} {short}");
-            tally.both(&what, library::open(b, seat, cell, sync, k, long, short), plain::open(b, seat, cell, sync, k, long, short))
+            tally.both(
+                &what,
+                library::open(b, seat, cell, sync, k, long, short),
+                plain::open(b, seat, cell, sync, k, long, short),
+            )
         }
         10..=19 => {
             let [timeslot, _, _, factor, index, ..] = request(dice);
             let what = format!("cancel {seat} {timeslot} {factor} {index}");
-            tally.both(&what, library::cancel(b, seat, timeslot, factor, index), plain::cancel(b, seat, timeslot, factor, index))
+            tally.both(
+                &what,
+                library::cancel(b, seat, timeslot, factor, index),
+                plain::cancel(b, seat, timeslot, factor, index),
+            )
         }
         // A booking that is there, if the seat has one.
         20..=29 => {
             let place = seat as usize % 16 * 327 + 7 + 8 * dice.below(10) as usize;
-            let [timeslot, factor, index] = [b.0[place] as u32, b.0[place + 3] as u32, b.0[place + 4] as u32];
+            let [timeslot, factor, index] =
+                [b.0[place] as u32, b.0[place + 3] as u32, b.0[place + 4] as u32];
             let what = format!("cancel {seat} {timeslot} {factor} {index}");
-            tally.both(&what, library::cancel(b, seat, timeslot, factor, index), plain::cancel(b, seat, timeslot, factor, index))
+            tally.both(
+                &what,
+                library::cancel(b, seat, timeslot, factor, index),
+                plain::cancel(b, seat, timeslot, factor, index),
+            )
         }
         30 => tally.both(&format!("close {seat}"), library::close(b, seat), plain::close(b, seat)),
         31..=40 => {
@@ -77,12 +104,17 @@ fn call(tally: &mut Tally, dice: &mut Dice, b: MqBook) -> MqBook {
         }
         _ => {
             let x = request(dice);
-            tally.both(&format!("book {seat} {x:?}"), library::book(b, seat, x), plain::book(b, seat, x))
+            tally.both(
+                &format!("book {seat} {x:?}"),
+                library::book(b, seat, x),
+                plain::book(b, seat, x),
+            )
         }
     }
 }
 
-/// Rows of thrown calls, the book going on from call to call; and each call now and then on a copy of the book with a byte or two changed.
+/// Rows of thrown calls, the book going on from call to call; and each call now and then on a copy of the book with a
+/// byte or two changed.
 pub fn compare() -> u32 {
     let mut tally = Tally::default();
     for seed in 0..20 {
@@ -96,13 +128,18 @@ pub fn compare() -> u32 {
             if dice.below(4) == 0 {
                 let mut damaged = b;
                 for _ in 0..=dice.below(2) {
-                    damaged.0[dice.below(BOOK_BYTES as u32) as usize] = dice.one_of(&[0, 1, 1, 2, 3, 16, 40, 41, 255]);
+                    damaged.0[dice.below(BOOK_BYTES as u32) as usize] =
+                        dice.one_of(&[0, 1, 1, 2, 3, 16, 40, 41, 255]);
                 }
                 call(&mut tally, &mut dice, damaged);
             }
         }
     }
-    let unseen: Vec<usize> = [0, 1, 2, 3, 4, 5, 6, 7, 8, 9, 11, 12, 13, 14, 15, 16, 17, 18, 19, 20, 21].into_iter().filter(|n| tally.seen[*n] == 0).collect();
+    let unseen: Vec<usize> =
+        [0, 1, 2, 3, 4, 5, 6, 7, 8, 9, 11, 12, 13, 14, 15, 16, 17, 18, 19, 20, 21]
+            .into_iter()
+            .filter(|n| tally.seen[*n] == 0)
+            .collect();
     same(unseen, vec![], || "refusals of the class book that were never met".to_string());
     tally.calls
 }
@@ -132,11 +169,37 @@ pub fn lines() -> Vec<Line> {
     let fewer = (0..60).map(|i| (i % 15, wanted(i % 8)[0])).collect();
     let (mut ours, mut theirs) = ([0; 320], [0; 320]);
     vec![
-        Line::new("empty book", vec![(); 200], |_| library::empty_book(), |_| plain::empty()),
-        Line::new("open", cells, move |&cell| library::open(*black_box(&b), 15, cell, 1, 0, 0, 0), move |&cell| plain::open(*black_box(&b), 15, cell, 1, 0, 0, 0)),
-        Line::new("book", more, move |&(seat, x)| library::book(*black_box(&b), seat, x), move |&(seat, x)| plain::book(*black_box(&b), seat, x)),
-        Line::new("cancel", fewer, move |&(seat, t)| library::cancel(*black_box(&b), seat, t, 16, 1), move |&(seat, t)| plain::cancel(*black_box(&b), seat, t, 16, 1)),
-        Line::new("close", seats(), move |&seat| library::close(*black_box(&b), seat), move |&seat| plain::close(*black_box(&b), seat)),
-        Line::new("list", seats(), move |&seat| library::list(*black_box(&b), seat, black_box(&mut ours)), move |&seat| plain::list(*black_box(&b), seat, black_box(&mut theirs))),
+        Line::new("empty book", vec![(); 200], |_| library::empty_book(), |_| plain::empty())
+            .with_limit(&limits::EMPTY_BOOK),
+        Line::new(
+            "open",
+            cells,
+            move |&cell| library::open(*black_box(&b), 15, cell, 1, 0, 0, 0),
+            move |&cell| plain::open(*black_box(&b), 15, cell, 1, 0, 0, 0),
+        ),
+        Line::new(
+            "book",
+            more,
+            move |&(seat, x)| library::book(*black_box(&b), seat, x),
+            move |&(seat, x)| plain::book(*black_box(&b), seat, x),
+        ),
+        Line::new(
+            "cancel",
+            fewer,
+            move |&(seat, t)| library::cancel(*black_box(&b), seat, t, 16, 1),
+            move |&(seat, t)| plain::cancel(*black_box(&b), seat, t, 16, 1),
+        ),
+        Line::new(
+            "close",
+            seats(),
+            move |&seat| library::close(*black_box(&b), seat),
+            move |&seat| plain::close(*black_box(&b), seat),
+        ),
+        Line::new(
+            "list",
+            seats(),
+            move |&seat| library::list(*black_box(&b), seat, black_box(&mut ours)),
+            move |&seat| plain::list(*black_box(&b), seat, black_box(&mut theirs)),
+        ),
     ]
 }

@@ -1,7 +1,9 @@
-//! How a booking's cost grows with the bookings in the book: inside the library (crates/bench_book), without the way over C, beside plain Rust.
+//! How a booking's cost grows with the bookings in the book: inside the library (crates/growth), without the way over
+//! C, beside plain Rust.
 //!
-//! Both book one code more, again and again, into a book with 0, 60, 120 and 239 bookings, in rounds in which library and plain Rust take turns; the best
-//! round of each is kept. The making of the book is timed by a round of no booking and taken off.
+//! Both book one code more, again and again, into a book with 0, 60, 120 and 239 bookings, in rounds in which library
+//! and plain Rust take turns; the best round of each is kept. The making of the book is timed by a round of no booking
+//! and taken off.
 
 use crate::dice::same;
 use crate::table;
@@ -12,27 +14,27 @@ const ROUNDS: usize = 61;
 const TIMES: u32 = 400;
 const BOOKINGS: [u32; 4] = [0, 60, 120, 239];
 
-/// Books inside the library (crates/bench_book), without the way over C.
+/// Books inside the library (crates/growth), without the way over C.
 mod inside {
     mod c {
         extern "C" {
-            pub fn bench_book(bookings: u32, times: u32) -> u32;
-            pub fn bench_mixed(seed: u32, calls: u32) -> u32;
+            pub fn growth_book(bookings: u32, times: u32) -> u32;
+            pub fn growth_mixed(seed: u32, calls: u32) -> u32;
         }
     }
 
     pub fn book(bookings: u32, times: u32) -> u32 {
         // SAFETY: plain numbers, and the call asks nothing of them.
-        unsafe { c::bench_book(bookings, times) }
+        unsafe { c::growth_book(bookings, times) }
     }
 
     pub fn mixed(seed: u32, calls: u32) -> u32 {
         // SAFETY: plain numbers, and the call asks nothing of them.
-        unsafe { c::bench_mixed(seed, calls) }
+        unsafe { c::growth_mixed(seed, calls) }
     }
 }
 
-/// The same work as crates/bench_book, over plain/book.rs.
+/// The same work as crates/growth, over plain/book.rs.
 mod plain {
     use crate::plain::book::{book_code, empty_book, open_seat, Book, Direction, Request};
 
@@ -96,11 +98,7 @@ mod plain {
         let f = c / 16;
         Request {
             timeslot: a / 64 % 16,
-            direction: if b / 16 % 3 == 0 {
-                Direction::Down
-            } else {
-                Direction::Up
-            },
+            direction: if b / 16 % 3 == 0 { Direction::Down } else { Direction::Up },
             burst: 1 + b / 256 % 17 / 14,
             factor: if f % 8 == 0 {
                 1
@@ -143,16 +141,21 @@ mod plain {
     }
 }
 
-/// Each number of bookings, and rows of thrown requests with the books that they leave; how many bookings were asked for.
+/// Each number of bookings, and rows of thrown requests with the books that they leave; how many bookings were asked
+/// for.
 pub fn compare() -> u32 {
     let mut compared = 0;
     for bookings in 0..=300 {
-        same(inside::book(bookings, 3), plain::book(bookings, 3), || format!("{bookings} bookings"));
+        same(inside::book(bookings, 3), plain::book(bookings, 3), || {
+            format!("{bookings} bookings")
+        });
         compared += bookings + 3;
     }
     for seed in 0..200 {
         let calls = 5 * seed;
-        same(inside::mixed(seed, calls), plain::mixed(seed, calls), || format!("thrown requests, seed {seed}"));
+        same(inside::mixed(seed, calls), plain::mixed(seed, calls), || {
+            format!("thrown requests, seed {seed}")
+        });
         compared += calls;
     }
     compared
@@ -182,13 +185,17 @@ pub fn measure() -> [[f64; 2]; 4] {
     best.map(|sides| sides.map(|[making, all]| (all - making) / TIMES as f64))
 }
 
-/// Prints the table; the largest ratio.
-pub fn print(ns: [[f64; 2]; 4]) -> f64 {
+/// Prints the table; its ratios.
+pub fn print(ns: [[f64; 2]; 4]) -> [f64; 4] {
     println!("ns of a booking inside the library, by the bookings in the book; best of {ROUNDS} rounds of {TIMES}\n");
     table::print_head("bookings in the book");
     for (bookings, ns) in BOOKINGS.iter().zip(ns) {
         table::print_line(&bookings.to_string(), ns);
     }
-    println!("\nfrom 0 to 239 bookings: library {:.1} times, plain Rust {:.1} times", ns[3][0] / ns[0][0], ns[3][1] / ns[0][1]);
-    ns.iter().map(|[library, plain]| library / plain).fold(0.0, f64::max)
+    println!(
+        "\nfrom 0 to 239 bookings: library {:.1} times, plain Rust {:.1} times",
+        ns[3][0] / ns[0][0],
+        ns[3][1] / ns[0][1]
+    );
+    ns.map(|[library, plain]| library / plain)
 }

@@ -1,18 +1,16 @@
-//! Every call of the built static library over C, beside plain Rust doing the same work, in one run; and how a booking's cost grows.
+//! Every call of the built static library over C, beside plain Rust doing the same work, in one run; and how a
+//! booking's cost grows.
 //!
-//! First both sides must give the same answers and the same memory, refused calls included. Then they take turns in rounds over the same inputs, and the best
-//! round of each is kept. The run fails where they differ, where a whole midamble takes more than LIMIT_MIDAMBLE times plain Rust, and where a booking inside
-//! the library takes more than LIMIT_BOOKING times.
+//! First both sides must give the same answers and the same memory, refused calls included. Then they take turns in
+//! rounds over the same inputs, and the best round of each is kept. The run fails where they differ, and where a limit
+//! of limits.rs does not hold.
 //!
-//! `benchmarks/run` builds and runs this; with the word `book` the growth alone. Standard library only.
+//! `benchmarks/run` builds and runs this; with the word `growth` the growth alone. Standard library only.
 
-#[path = "../compare/answers.rs"]
-mod answers;
 mod book;
 mod dice;
 mod growth;
-#[path = "../compare/library.rs"]
-mod library;
+mod limits;
 mod midambles;
 mod paging;
 mod plain;
@@ -21,21 +19,10 @@ mod rows;
 mod table;
 mod timeslots;
 
+use limits::Limit;
 use std::process::exit;
 
-const LIMIT_MIDAMBLE: f64 = 1.2;
-const LIMIT_BOOKING: f64 = 1.5;
 const ROUNDS: usize = 201;
-
-/// Says whether a limit holds.
-fn within(what: &str, worst: f64, limit: f64) -> bool {
-    if worst > limit {
-        println!("TOO SLOW: {what} takes {worst:.2} times plain Rust; at most {limit} is asked");
-    } else {
-        println!("ok: {what} takes at most {worst:.2} times plain Rust; at most {limit} is asked");
-    }
-    worst <= limit
-}
 
 /// The table of all calls; whether its limits hold.
 fn calls() -> bool {
@@ -47,7 +34,11 @@ fn calls() -> bool {
         refusals::compare(),
         book::compare()
     );
-    let mut lines: Vec<table::Line> = [midambles::lines(), timeslots::lines(), paging::lines(), refusals::lines(), book::lines()].into_iter().flatten().collect();
+    let mut lines: Vec<table::Line> =
+        [midambles::lines(), timeslots::lines(), paging::lines(), refusals::lines(), book::lines()]
+            .into_iter()
+            .flatten()
+            .collect();
     for round in 0..ROUNDS {
         for line in &mut lines {
             line.round(round);
@@ -58,16 +49,19 @@ fn calls() -> bool {
     for line in &lines {
         line.print();
     }
-    println!("\n(*) for information: plain Rust's quickest loop that we know of for a whole midamble");
-    let limited = lines.iter().filter(|line| line.limited);
-    within("a whole midamble", limited.map(table::Line::ratio).fold(0.0, f64::max), LIMIT_MIDAMBLE)
+    println!(
+        "\n(*) for information: plain Rust's quickest loop that we know of for a whole midamble"
+    );
+    let limits: [&Limit; 3] = [&limits::MIDAMBLE, &limits::PAGE, &limits::EMPTY_BOOK];
+    let held =
+        limits.map(|limit| limit.holds(lines.iter().filter_map(|line| line.ratio_of(limit))));
+    held == [true; 3]
 }
 
 /// The table of the growth; whether its limit holds.
 fn bookings() -> bool {
     println!("library and plain Rust give equal answers: {} bookings inside the library, and the books they leave", growth::compare());
-    let worst = growth::print(growth::measure());
-    within("a booking inside the library", worst, LIMIT_BOOKING)
+    limits::BOOKING.holds(growth::print(growth::measure()).into_iter())
 }
 
 fn main() {
@@ -78,9 +72,11 @@ fn main() {
             println!();
             bookings() && fine
         }
-        ["book"] => bookings(),
+        ["growth"] => bookings(),
         _ => {
-            eprintln!("benchmarks/run: all calls and the growth; benchmarks/run book: the growth alone");
+            eprintln!(
+                "benchmarks/run: all calls and the growth; benchmarks/run growth: the growth alone"
+            );
             exit(2);
         }
     };

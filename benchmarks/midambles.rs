@@ -1,10 +1,10 @@
 //! One chip and whole midambles.
 
-use crate::answers::MqAnswer;
 use crate::dice::same;
-use crate::library;
+use crate::limits;
 use crate::plain::midambles as plain;
 use crate::table::Line;
+use library::MqAnswer;
 use std::hint::black_box;
 
 /// Every cell, type, count and user and the numbers just outside, lent memory of several lengths, every chip.
@@ -20,14 +20,24 @@ pub fn compare() -> u32 {
                         let r = library::midamble(cell, burst, count, user, &mut a[..length]);
                         let s = plain::midamble(cell, burst, count, user, &mut b[..length]);
                         let t = plain::without_branch(cell, burst, count, user, &mut c[..length]);
-                        let what = || format!("midamble {cell} {burst} {count} {user}, {length} bytes lent");
+                        let what = || {
+                            format!("midamble {cell} {burst} {count} {user}, {length} bytes lent")
+                        };
                         same((r, a), (s, b), what);
                         same((r, a), (t, c), what);
                         compared += 1;
                     }
-                    let last = if library::chip(cell, burst, count, user, 1).refusal == 0 { 514 } else { 2 };
+                    let last = if library::chip(cell, burst, count, user, 1).refusal == 0 {
+                        514
+                    } else {
+                        2
+                    };
                     for chip in (0..last).chain([u32::MAX]) {
-                        same(library::chip(cell, burst, count, user, chip), plain::chip(cell, burst, count, user, chip), || format!("chip {cell} {burst} {count} {user} {chip}"));
+                        same(
+                            library::chip(cell, burst, count, user, chip),
+                            plain::chip(cell, burst, count, user, chip),
+                            || format!("chip {cell} {burst} {count} {user} {chip}"),
+                        );
                         compared += 1;
                     }
                 }
@@ -43,24 +53,32 @@ type Midamble = fn(u32, u32, u32, u32, &mut [u8]) -> MqAnswer;
 fn whole(what: &'static str, burst: u32, count: u32, plain: Midamble) -> Line {
     let inputs = (0..128).flat_map(|cell| (1..=count).map(move |user| (cell, user))).collect();
     let (mut ours, mut theirs) = ([0; 512], [0; 512]);
-    let library = move |&(cell, user): &(u32, u32)| library::midamble(cell, burst, count, user, black_box(&mut ours));
-    Line::new(what, inputs, library, move |&(cell, user)| plain(cell, burst, count, user, black_box(&mut theirs)))
+    let library = move |&(cell, user): &(u32, u32)| {
+        library::midamble(cell, burst, count, user, black_box(&mut ours))
+    };
+    Line::new(what, inputs, library, move |&(cell, user)| {
+        plain(cell, burst, count, user, black_box(&mut theirs))
+    })
 }
 
 /// All cells and users, and some chips of each.
 fn chips(what: &'static str, burst: u32, count: u32) -> Line {
     let users = (0..128).flat_map(|cell| (1..=count).map(move |user| (cell, user)));
-    let inputs = users.flat_map(|(cell, user)| (0..4).map(move |i| (cell, user, 61 * i + 1))).collect();
-    let library = move |&(cell, user, i): &(u32, u32, u32)| library::chip(cell, burst, count, user, i);
-    Line::new(what, inputs, library, move |&(cell, user, i)| plain::chip(cell, burst, count, user, i))
+    let inputs =
+        users.flat_map(|(cell, user)| (0..4).map(move |i| (cell, user, 61 * i + 1))).collect();
+    let library =
+        move |&(cell, user, i): &(u32, u32, u32)| library::chip(cell, burst, count, user, i);
+    Line::new(what, inputs, library, move |&(cell, user, i)| {
+        plain::chip(cell, burst, count, user, i)
+    })
 }
 
 pub fn lines() -> Vec<Line> {
     vec![
         chips("one chip, type 1", 1, 16),
         chips("one chip, type 2", 2, 6),
-        whole("midamble, type 1", 1, 16, plain::midamble).with_limit(),
-        whole("midamble, type 2", 2, 6, plain::midamble).with_limit(),
+        whole("midamble, type 1", 1, 16, plain::midamble).with_limit(&limits::MIDAMBLE),
+        whole("midamble, type 2", 2, 6, plain::midamble).with_limit(&limits::MIDAMBLE),
         whole("type 1, without a branch (*)", 1, 16, plain::without_branch),
         whole("type 2, without a branch (*)", 2, 6, plain::without_branch),
     ]

@@ -1,7 +1,6 @@
 //! The words of the refusals.
 
 use crate::dice::same;
-use crate::library;
 use crate::plain::refusals as plain;
 use crate::table::Line;
 use std::hint::black_box;
@@ -12,7 +11,9 @@ pub fn compare() -> u32 {
         for length in 0..=300 {
             let (mut a, mut b) = ([0xA5; 300], [0xA5; 300]);
             let r = library::refusal_text(number, &mut a[..length]);
-            same((r, a), (plain::refusal_text(number, &mut b[..length]), b), || format!("the words of {number}, {length} bytes lent"));
+            same((r, a), (plain::refusal_text(number, &mut b[..length]), b), || {
+                format!("the words of {number}, {length} bytes lent")
+            });
             compared += 1;
         }
     }
@@ -23,5 +24,7 @@ pub fn lines() -> Vec<Line> {
     let (mut ours, mut theirs) = ([0; 256], [0; 256]);
     let inputs = (0..20).flat_map(|_| 1..=21).collect();
     let library = move |&number: &u32| library::refusal_text(number, black_box(&mut ours));
-    vec![Line::new("refusal text", inputs, library, move |&number| plain::refusal_text(number, black_box(&mut theirs)))]
+    vec![Line::new("refusal text", inputs, library, move |&number| {
+        plain::refusal_text(number, black_box(&mut theirs))
+    })]
 }

@@ -1,14 +1,16 @@
 //! A table of calls, each timed by the library and by plain Rust in turns, and its printing.
 
+use crate::limits::Limit;
 use std::hint::black_box;
 use std::rc::Rc;
 use std::time::Instant;
 
-/// One line of the table: the same work by the library and by plain Rust, in nanoseconds a call; the best round of each is kept.
+/// One line of the table: the same work by the library and by plain Rust, in nanoseconds a call; the best round of
+/// each is kept.
 pub struct Line {
-    what: &'static str,
-    /// Whether the run fails where its ratio is too large.
-    pub limited: bool,
+    what: String,
+    /// The limit that its ratio is held to, if any.
+    limit: Option<&'static Limit>,
     sides: [Box<dyn FnMut() -> f64>; 2],
     best: [f64; 2],
 }
@@ -24,19 +26,27 @@ fn timed<I, A>(inputs: &[I], call: &mut impl FnMut(&I) -> A) -> f64 {
 }
 
 impl Line {
-    pub fn new<I: 'static, A: 'static>(what: &'static str, inputs: Vec<I>, mut library: impl FnMut(&I) -> A + 'static, mut plain: impl FnMut(&I) -> A + 'static) -> Line {
+    pub fn new<I: 'static, A: 'static>(
+        what: impl Into<String>,
+        inputs: Vec<I>,
+        mut library: impl FnMut(&I) -> A + 'static,
+        mut plain: impl FnMut(&I) -> A + 'static,
+    ) -> Line {
         let ours: Rc<[I]> = inputs.into();
         let theirs = Rc::clone(&ours);
         Line {
-            what,
-            limited: false,
-            sides: [Box::new(move || timed(&ours, &mut library)), Box::new(move || timed(&theirs, &mut plain))],
+            what: what.into(),
+            limit: None,
+            sides: [
+                Box::new(move || timed(&ours, &mut library)),
+                Box::new(move || timed(&theirs, &mut plain)),
+            ],
             best: [f64::INFINITY; 2],
         }
     }
 
-    pub fn with_limit(self) -> Line {
-        Line { limited: true, ..self }
+    pub fn with_limit(self, limit: &'static Limit) -> Line {
+        Line { limit: Some(limit), ..self }
     }
 
     /// One round of each side; who goes first changes from round to round.
@@ -46,12 +56,14 @@ impl Line {
         }
     }
 
-    pub fn ratio(&self) -> f64 {
-        self.best[0] / self.best[1]
+    /// Library to plain Rust, where the line is held to that limit.
+    pub fn ratio_of(&self, limit: &Limit) -> Option<f64> {
+        let held = self.limit.is_some_and(|mine| mine.what == limit.what);
+        held.then_some(self.best[0] / self.best[1])
     }
 
     pub fn print(&self) {
-        print_line(self.what, self.best);
+        print_line(&self.what, self.best);
     }
 }
 

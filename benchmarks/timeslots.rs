@@ -1,7 +1,6 @@
 //! Parts of a timeslot, what lies at a chip, and beacon timeslots.
 
 use crate::dice::same;
-use crate::library;
 use crate::plain::timeslots as plain;
 use crate::table::Line;
 
@@ -25,7 +24,10 @@ fn questions() -> Vec<Question> {
 }
 
 fn answered() -> Vec<Question> {
-    questions().into_iter().filter(|&[a, b, c, d, e]| library::parts(a, b, c, d, e).refusal == 0).collect()
+    questions()
+        .into_iter()
+        .filter(|&[a, b, c, d, e]| library::parts(a, b, c, d, e).refusal == 0)
+        .collect()
 }
 
 pub fn compare() -> u32 {
@@ -36,7 +38,11 @@ pub fn compare() -> u32 {
         same(r, plain::parts(burst, direction, factor, tfci, tpc), || format!("parts {x:?}"));
         let chips = if r.refusal == 0 { 0..2562 } else { 2559..2561 };
         for chip in chips.chain([u32::MAX]) {
-            same(library::at(burst, direction, factor, tfci, tpc, chip), plain::at(burst, direction, factor, tfci, tpc, chip), || format!("at {x:?} {chip}"));
+            same(
+                library::at(burst, direction, factor, tfci, tpc, chip),
+                plain::at(burst, direction, factor, tfci, tpc, chip),
+                || format!("at {x:?} {chip}"),
+            );
             compared += 1;
         }
         compared += 1;
@@ -52,11 +58,30 @@ pub fn compare() -> u32 {
 
 pub fn lines() -> Vec<Line> {
     let parts: Vec<Question> = (0..10).flat_map(|_| answered()).collect();
-    let chips = answered().into_iter().flat_map(|x| (0..16).map(move |i| (x, (i * 163 + 11) % 2560))).collect();
-    let beacons = (0..200).flat_map(|_| (0..15).map(|k| (1, k)).chain((0..7).map(|k| (2, k)))).collect();
+    let chips = answered()
+        .into_iter()
+        .flat_map(|x| (0..16).map(move |i| (x, (i * 163 + 11) % 2560)))
+        .collect();
+    let beacons =
+        (0..200).flat_map(|_| (0..15).map(|k| (1, k)).chain((0..7).map(|k| (2, k)))).collect();
     vec![
-        Line::new("parts", parts, |&[a, b, c, d, e]| library::parts(a, b, c, d, e), |&[a, b, c, d, e]| plain::parts(a, b, c, d, e)),
-        Line::new("at", chips, |&([a, b, c, d, e], i)| library::at(a, b, c, d, e, i), |&([a, b, c, d, e], i)| plain::at(a, b, c, d, e, i)),
-        Line::new("beacon", beacons, |&(sync, k)| library::beacon(sync, k), |&(sync, k)| plain::beacon(sync, k)),
+        Line::new(
+            "parts",
+            parts,
+            |&[a, b, c, d, e]| library::parts(a, b, c, d, e),
+            |&[a, b, c, d, e]| plain::parts(a, b, c, d, e),
+        ),
+        Line::new(
+            "at",
+            chips,
+            |&([a, b, c, d, e], i)| library::at(a, b, c, d, e, i),
+            |&([a, b, c, d, e], i)| plain::at(a, b, c, d, e, i),
+        ),
+        Line::new(
+            "beacon",
+            beacons,
+            |&(sync, k)| library::beacon(sync, k),
+            |&(sync, k)| plain::beacon(sync, k),
+        ),
     ]
 }

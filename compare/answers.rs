@@ -1,4 +1,4 @@
-//! What the calls answer: the structs of include/mqarbset.h. Used by over_c.rs and by benchmarks/main.rs.
+//! What the calls answer: the structs of include/mqarbset.h.
 
 pub const BOOK_BYTES: usize = 5232;
 
@@ -10,10 +10,12 @@ pub struct MqAnswer {
 }
 
 impl MqAnswer {
+    #[inline]
     pub fn refusing(refusal: u32) -> MqAnswer {
         MqAnswer { refusal, value: 0 }
     }
 
+    #[inline]
     pub fn giving(value: u32) -> MqAnswer {
         MqAnswer { refusal: 0, value }
     }

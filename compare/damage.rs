@@ -1,36 +1,53 @@
 //! The inside of a caller's book, which is opaque in include/mqarbset.h: known here, so that it can be damaged.
 
-use crate::answers::MqBook;
+use library::{MqBook, BOOK_BYTES};
+use second::dice::Dice;
 
 const SEAT_BYTES: usize = 327;
 const SETTINGS_BYTES: usize = 7;
 const BOOKING_BYTES: usize = 8;
+const PLACES: usize = 40;
 
-impl MqBook {
-    /// A byte of a seat.
-    pub fn set(&mut self, seat: usize, byte: usize, value: u8) {
-        self.0[SEAT_BYTES * seat + byte] = value;
-    }
+/// Where the byte of a seat that says whether it is open stands; its settings and its count follow.
+fn seat_place(seat: usize) -> usize {
+    SEAT_BYTES * seat
+}
 
-    /// How many bookings a seat says it has.
-    pub fn count(&self, seat: usize) -> usize {
-        self.0[SEAT_BYTES * seat + 6] as usize
-    }
+/// Where a booking stands.
+fn booking_place(seat: usize, place: usize) -> usize {
+    seat_place(seat) + SETTINGS_BYTES + BOOKING_BYTES * place
+}
 
-    fn place(seat: usize, place: usize) -> usize {
-        SEAT_BYTES * seat + SETTINGS_BYTES + BOOKING_BYTES * place
-    }
-
-    /// Two places change their bookings.
-    pub fn exchange(&mut self, seat: usize, one: usize, other: usize) {
-        for byte in 0..BOOKING_BYTES {
-            self.0.swap(Self::place(seat, one) + byte, Self::place(seat, other) + byte);
+/// A copy of a book that surely breaks its conditions.
+pub fn broken(dice: &mut Dice, whole: &MqBook) -> MqBook {
+    let mut b = *whole;
+    let seat = dice.place(16);
+    let start = seat_place(seat);
+    let (live, held) = (b.0[start] == 1, b.0[start + 6] as usize);
+    let (first, second) = (booking_place(seat, 0), booking_place(seat, 1));
+    let last = booking_place(seat, PLACES - 1);
+    match dice.below(9) {
+        0 => b.0 = [255; BOOK_BYTES],
+        // neither open nor closed
+        1 => b.0[start] = 2 + dice.below(254) as u8,
+        // more bookings than a seat may hold
+        2 => b.0[start + 6] = 41 + dice.below(215) as u8,
+        // neither up nor down
+        3 => b.0[booking_place(seat, dice.place(PLACES)) + 1] = 2 + dice.below(254) as u8,
+        // not blank behind the bookings
+        4 if held < PLACES => b.0[last + dice.place(BOOKING_BYTES)] = 1 + dice.below(255) as u8,
+        // a closed seat that has a cell; an open one whose cell is none
+        5 if !live => b.0[start + 1] = 1 + dice.below(255) as u8,
+        6 if live => b.0[start + 1] = 128 + dice.below(128) as u8,
+        // out of order; twice the same
+        7 if held >= 2 => {
+            for byte in 0..BOOKING_BYTES {
+                b.0.swap(first + byte, second + byte);
+            }
         }
+        8 if held >= 2 => b.0.copy_within(first..first + BOOKING_BYTES, second),
+        // no k
+        _ => b.0[start + 3] = 15 + dice.below(241) as u8,
     }
-
-    /// A place gets the booking of another.
-    pub fn repeat(&mut self, seat: usize, from: usize, to: usize) {
-        let from = Self::place(seat, from);
-        self.0.copy_within(from..from + BOOKING_BYTES, Self::place(seat, to));
-    }
+    b
 }

@@ -1,4 +1,4 @@
-/* A lesson over the C interface: a midamble, the parts of a timeslot, the class book, and a refusal with its words.
+/* A lesson over the C interface: a midamble, the parts of a timeslot, the class book and what is kept of it, and refusals with their words.
  *   cc -std=c99 -Iinclude examples/lesson.c target/staticlib/libmqarbset.a -o lesson */
 #include <mqarbset.h>
 #include <stdio.h>
@@ -75,6 +75,50 @@ static void list(const mq_book *book, uint32_t seat)
                records[i].burst, records[i].factor, records[i].index, records[i].user, records[i].tfci, records[i].tpc);
 }
 
+/* Room for a line of a lesson. */
+#define LINE_BYTES 80
+
+/* What is kept of a seat's plan: the lines of a lesson, its opening with the counts written outright and its bookings. Returns how many. */
+static size_t keep(const mq_book *book, unsigned seat, const char *opening, char lines[][LINE_BYTES])
+{
+    mq_booking records[MQ_LIST_RECORDS];
+    mq_answer listed = mq_list(book, seat, records, MQ_LIST_RECORDS);
+    size_t i;
+    snprintf(lines[0], LINE_BYTES, "open %u %s", seat, opening);
+    for (i = 0; i < listed.value; i++)
+        snprintf(lines[i + 1], LINE_BYTES, "book %u %d %s %d %d %d %d %d %d", seat, records[i].timeslot, records[i].direction == MQ_DOWN ? "down" : "up",
+                 records[i].burst, records[i].factor, records[i].index, records[i].user, records[i].tfci, records[i].tpc);
+    return listed.value + 1;
+}
+
+/* Makes the call of such a line. Returns 1 where it is one and is not refused. */
+static int make_again(mq_book *book, const char *line)
+{
+    char way[8];
+    unsigned n[8];
+    if (sscanf(line, "open %u %u %u %u %u %u", n, n + 1, n + 2, n + 3, n + 4, n + 5) == 6)
+        return mq_open(book, n[0], n[1], n[2], n[3], n[4], n[5]) == 0;
+    if (sscanf(line, "book %u %u %7s %u %u %u %u %u %u", n, n + 1, way, n + 2, n + 3, n + 4, n + 5, n + 6, n + 7) == 9)
+        return mq_book_code(book, n[0], n[1], strcmp(way, "down") == 0 ? MQ_DOWN : MQ_UP, n[2], n[3], n[4], n[5], n[6], n[7]) == 0;
+    return 0;
+}
+
+/* A plan is kept as lines, and the book is made again from them. */
+static void keep_and_make_again(const mq_book *book)
+{
+    char lines[MQ_LIST_RECORDS + 1][LINE_BYTES];
+    size_t count = keep(book, 3, "0 1 0 16 6", lines);
+    mq_book again = mq_empty_book();
+    size_t made = 0;
+    size_t i;
+    for (i = 0; i < count; i++) {
+        printf("  %s\n", lines[i]);
+        made += make_again(&again, lines[i]);
+    }
+    printf("a book made again from %u of these %u lines:\n", (unsigned)made, (unsigned)count);
+    list(&again, 3);
+}
+
 static void class_book(void)
 {
     mq_book book = mq_empty_book();
@@ -87,6 +131,7 @@ static void class_book(void)
     refusal = mq_book_code(&book, 3, 0, MQ_DOWN, 1, 16, 1, 1, 0, 0);
     printf("book (16, 1) for user 1 in timeslot 0: %u\n", (unsigned)refusal);
     list(&book, 3);
+    keep_and_make_again(&book);
     kept = book;
     refused("book (1, 1) in timeslot 2", mq_book_code(&book, 3, 2, MQ_DOWN, 1, 1, 1, 5, 0, 0));
     refused("book in direction 7", mq_book_code(&book, 3, 2, 7, 1, 16, 5, 5, 0, 0));

@@ -2,8 +2,14 @@
 
     PYTHONPATH=python python3 examples/lesson.py
 """
+import copy
+import pickle
+
 import mqarbset
 from mqarbset import DOWN, UP, Book, Refused
+
+DIRECTIONS = {'up': UP, 'down': DOWN}
+WORDS = {number: word for word, number in DIRECTIONS.items()}
 
 
 def tried(what, call, *arguments):
@@ -14,7 +20,25 @@ def tried(what, call, *arguments):
         print(f'{what}: refused with {refused}')
 
 
-def main():
+def kept(book, seat, cell, sync, k, long, short):
+    """What is kept of a seat's plan: the lines of a lesson, its opening with the counts written outright and its bookings."""
+    lines = [f'open {seat} {cell} {sync} {k} {long} {short}']
+    for b in book.list(seat):
+        lines.append(f'book {seat} {b.timeslot} {WORDS[b.direction]} {b.burst} {b.factor} {b.index} {b.user} {b.tfci} {b.tpc}')
+    return lines
+
+
+def made_again(lines):
+    """The book that such lines give."""
+    book = Book()
+    for line in lines:
+        name, *words = line.split()
+        numbers = [DIRECTIONS[word] if word in DIRECTIONS else int(word) for word in words]
+        {'open': book.open, 'book': book.book}[name](*numbers)
+    return book
+
+
+def questions():
     tried('midamble of cell 0, type 1, user 8 of 8, the first chips', lambda: list(mqarbset.midamble(0, 1, 8, 8)[:8]))
     tried('user 9 of 8', mqarbset.midamble, 0, 1, 8, 9)
     tried('chip 1', mqarbset.midamble_chip, 0, 1, 8, 8, 1)
@@ -36,25 +60,38 @@ def main():
     tried('page with indicators 1, 3, 5, .. on and a bit turned over', lambda: list(mqarbset.read_page(1, 4, bits)))
     tried('settings for 29 of 30 indicators', mqarbset.page, 1, 4, bytes(29))
 
+
+def class_book():
     book = Book()
     tried('open seat 3', book.open, 3, 0, 1, 0)
     tried('book (16, 3) for user 4 in timeslot 2', book.book, 3, 2, DOWN, 1, 16, 3, 4)
     tried('book (16, 1) for user 1 in timeslot 0', book.book, 3, 0, DOWN, 1, 16, 1, 1)
     for booking in book.list(3):
         print(f'  {booking}')
-    kept = bytes(book)
+
+    # What is kept of the plan; the same lines are a lesson for ./bench.
+    lines = kept(book, 3, 0, 1, 0, 16, 6)
+    for line in lines:
+        print(f'  {line}')
+    print(f'the book made again from these lines: {"the same plan" if made_again(lines).list(3) == book.list(3) else "another plan"}')
+
+    # Copies in memory, each a book of its own.
+    before, deep = copy.copy(book), copy.deepcopy(book)
     tried('book (1, 1) in timeslot 2', book.book, 3, 2, DOWN, 1, 1, 1, 5)
     tried('book in direction 7', book.book, 3, 2, 7, 1, 16, 5, 5)
-    print(f'the book after both: {"the same bytes" if bytes(book) == kept else "changed"}')
+    print(f'the book after both: {"the same plan" if book.list(3) == before.list(3) else "changed"}')
     tried('cancel (16, 3) in timeslot 2', book.cancel, 3, 2, 16, 3)
     tried('seat 3 now', book.list, 3)
     tried('close seat 3', book.close, 3)
     tried('seat 3 now', book.list, 3)
-    tried('the book that was kept', lambda: len(Book.from_bytes(kept).list(3)))
-    tried('a book that was never made', Book.from_bytes(bytes([7] * len(kept))).close, 3)
-    damaged = bytearray(kept)
-    damaged[3 * 327] = 2
-    tried('a seat that is neither open nor closed', Book.from_bytes(damaged).list, 5)
+    tried('the copies, bookings', lambda: [len(before.list(3)), len(deep.list(3))])
+    tried('close seat 3 of one copy', before.close, 3)
+    tried('the other, bookings', lambda: len(deep.list(3)))
+    try:
+        pickle.dumps(book)
+    except TypeError as error:
+        print(f'a pickled book: {error}')
 
 
-main()
+questions()
+class_book()

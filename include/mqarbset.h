@@ -4,7 +4,8 @@
  * document 01 says, or refuses with document 01's number, and a refused call leaves the book and all lent memory as they were. The few lines
  * of C in this header, the functions marked `static inline`, are not part of the proof.
  *
- * Numbers are uint32_t, and any value may be handed in. A refusal is one of enum mq_refusal; 0 is none. If several apply, the lowest is given.
+ * Numbers are uint32_t, and any value may be handed in. A refusal is one of enum mq_refusal; 0 is none. If several apply, the lowest is given,
+ * and every other number of the answer is 0.
  * Lent memory is a pointer and a length; it may be longer than needed (only the first places are read or written) and must not overlap other
  * lent memory that is written. The pointer may be NULL where the length is 0.
  *
@@ -72,6 +73,7 @@ enum mq_reading {
 
 /* ---- refusals --------------------------------------------------------------------------------------------------------------------------- */
 
+/* Each with document 01's words, as mq_refusal_text gives them; what this interface adds stands behind a bar. */
 enum mq_refusal {
     MQ_REFUSED_NONE = 0,
     MQ_REFUSED_CELL = 1,        /* cell parameter above 127 */
@@ -80,7 +82,7 @@ enum mq_refusal {
     MQ_REFUSED_USER = 4,        /* user outside 1..count (in a booking: outside 1..16 for types 1, 3; 1..6 for type 2) */
     MQ_REFUSED_TIMESLOT = 5,    /* timeslot above 14 */
     MQ_REFUSED_CODE = 6,        /* spreading factor not 1, 2, 4, 8, 16; code index outside 1..factor; where a direction is given, downlink with
-                                   a factor other than 1 or 16; and, over C, a direction that is neither MQ_UP nor MQ_DOWN */
+                                   a factor other than 1 or 16 | a direction that is neither MQ_UP nor MQ_DOWN */
     MQ_REFUSED_DOWN_TYPE = 7,   /* type 3 in downlink */
     MQ_REFUSED_CONTROL = 8,     /* TFCI bits not 0, 4, 8, 16, 32; TPC bits not 0 or 2; TPC 2 in downlink */
     MQ_REFUSED_SYNC = 9,        /* synchronisation case not 1 or 2; k above 14 (case 1) or above 6 (case 2) */
@@ -88,7 +90,7 @@ enum mq_refusal {
                                    paging bit outside the 244 or 276; timeslot chip above 2559; midamble chip outside 1 to its length */
     MQ_REFUSED_MEMORY = 11,     /* lent memory, read or written, shorter than the call needs (a list: fewer than 40 records, however few it
                                    writes) */
-    MQ_REFUSED_BOOK = 12,       /* the book breaks its conditions: it was never made, or its bytes were written over */
+    MQ_REFUSED_BOOK = 12,       /* the book breaks its conditions | it was never made, or its bytes were written over */
     MQ_REFUSED_SEAT = 13,       /* seat above 15 */
     MQ_REFUSED_CLOSED = 14,     /* seat not open */
     MQ_REFUSED_OPEN = 15,       /* seat open already */
@@ -100,7 +102,7 @@ enum mq_refusal {
     MQ_REFUSED_NONE_SUCH = 21   /* no such booking */
 };
 
-/* A number as an answer: the refusal, or 0; and the value, or 0 where the call was refused. */
+/* A number as an answer: the refusal, or 0; and the value. */
 typedef struct mq_answer {
     uint32_t refusal;
     uint32_t value;
@@ -139,7 +141,7 @@ MQ_MUST_USE mq_answer mq_midamble(uint32_t cell, uint32_t burst, uint32_t count,
 /* ---- timeslots -------------------------------------------------------------------------------------------------------------------------- */
 
 /* The seven parts of a timeslot, part p (enum mq_part) at [p - 1]: its first chip and its length in chips. An empty part starts where the part
- * before it ends. And the bits of data 1 and data 2. All 0 where the call was refused. */
+ * before it ends. And the bits of data 1 and data 2. */
 typedef struct mq_parts_answer {
     uint32_t refusal;
     uint32_t start[MQ_PARTS];
@@ -156,7 +158,8 @@ typedef struct mq_parts_answer {
  * Refusals: 2, 6, 7, 8. */
 MQ_MUST_USE mq_parts_answer mq_parts(uint32_t burst, uint32_t direction, uint32_t factor, uint32_t tfci, uint32_t tpc);
 
-/* What lies at a chip: a part (enum mq_part) and the symbol's number in it; in midamble and guard the chip's offset. Both count from 0. */
+/* What lies at a chip: a part (enum mq_part, from 1) and the symbol's number in it; in midamble and guard the chip's offset. Symbol numbers
+ * and offsets count from 0. */
 typedef struct mq_place {
     uint32_t refusal;
     uint32_t part;
@@ -226,8 +229,10 @@ MQ_MUST_USE mq_answer mq_read_page(uint32_t burst, uint32_t length, const unsign
 
 /* ---- the class book --------------------------------------------------------------------------------------------------------------------- */
 
-/* A class book: 16 seats, all closed at first. The caller holds it and may copy, move or keep it as bytes; what is inside is nobody else's to
- * read or write. Make it with mq_empty_book. A book that was not made so, or was written over, is refused with 12. */
+/* A class book: 16 seats, all closed at first. The caller holds it and may copy it in memory, as any struct. What is inside is nobody else's to
+ * read or write, and does not leave the program: what is kept of a book is the lines of a lesson (docs/LESSONS.md), an `open` for each seat with
+ * its counts written outright and a `book` for each booking that is listed, and they give the book again (examples/lesson.c).
+ * Make it with mq_empty_book. A book that was not made so, or was written over, is refused with 12. */
 typedef struct mq_book {
     unsigned char inside[MQ_BOOK_BYTES];
 } mq_book;

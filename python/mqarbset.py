@@ -205,23 +205,25 @@ def read_page(burst, length, bits):
 
 
 class Book:
-    """A class book: sixteen seats, 0 to 15, all closed at first. A refused call leaves it as it was."""
+    """A class book: sixteen seats, 0 to 15, all closed at first. A refused call leaves it as it was.
+
+    A book is copied with copy.copy or copy.deepcopy. Its form does not leave the program: what is kept of it is the lines of a lesson
+    (docs/LESSONS.md), which give the book again; examples/lesson.py shows how.
+    """
 
     def __init__(self):
         self._book = _library.mq_empty_book()
 
-    def __bytes__(self):
-        """The book as bytes, to keep; what is inside is nobody else's to read or write."""
-        return bytes(self._book)
-
-    @classmethod
-    def from_bytes(cls, kept):
-        """The book that was kept. Bytes that no book has are refused with 12 by every call."""
-        if len(kept) != BOOK_BYTES:
-            raise ValueError(f'a book has {BOOK_BYTES} bytes, these are {len(kept)}')
-        made = cls()
-        made._book = _Book.from_buffer_copy(kept)
+    def __copy__(self):
+        made = type(self)()
+        made._book = _Book.from_buffer_copy(self._book)
         return made
+
+    def __deepcopy__(self, memo):
+        return self.__copy__()
+
+    def __reduce_ex__(self, protocol):
+        raise TypeError("a book's form does not leave the program: keep the lines of a lesson that give it again")
 
     def open(self, seat, cell, sync, k, long=0, short=0):
         """Opens a seat; a count of 0 stands for 16 (long) or 6 (short). Refused with 1, 3, 9, 12, 13, 15."""

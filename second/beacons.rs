@@ -1,8 +1,7 @@
 //! Document 01, "Beacon timeslots (clauses 5.3.4, 5.5)": which timeslots they are. (The rules (a) to (f) for booking in
 //! them belong to the class book.)
 
-use crate::refusals::{in_words, refuse_if, Answer};
-use std::io::{self, Write};
+use crate::refusals::{refuse_if, Answer};
 
 /// "Case 1: timeslot k. Case 2: timeslots k and k + 8." Refusal 9.
 pub fn beacon_timeslots(case: u32, k: u32) -> Answer<Vec<u32>> {
@@ -14,23 +13,5 @@ pub fn beacon_timeslots(case: u32, k: u32) -> Answer<Vec<u32>> {
 
 /// The timeslots, parted by blanks.
 pub fn words(timeslots: Vec<u32>) -> String {
-    timeslots
-        .iter()
-        .map(u32::to_string)
-        .collect::<Vec<String>>()
-        .join(" ")
-}
-
-/// docs/COMPARISON.md, `beacons`.
-pub fn print(out: &mut dyn Write) -> io::Result<()> {
-    for case in [0, 1, 2, 3, u32::MAX] {
-        for k in (0..=16).chain([u32::MAX]) {
-            writeln!(
-                out,
-                "beacon {case} {k}: {}",
-                in_words(beacon_timeslots(case, k), words)
-            )?;
-        }
-    }
-    Ok(())
+    timeslots.iter().map(u32::to_string).collect::<Vec<String>>().join(" ")
 }

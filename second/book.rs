@@ -1,7 +1,7 @@
 //! Document 01, "The class book", with the rules (a) to (f) of "Beacon timeslots (clauses 5.3.4, 5.5)".
 //!
-//! The book here is a list of bookings for each open seat, in the order in which they were made. "Its form inside is the
-//! team's choice": this one holds nothing twice.
+//! The book here is a list of bookings for each open seat, in the order in which they were made. "Its form inside is
+//! the team's choice": this one holds nothing twice.
 
 use crate::beacons::beacon_timeslots;
 use crate::refusals::{refuse_if, refuse_unknown_type, Answer};
@@ -40,7 +40,7 @@ pub struct Record {
 }
 
 impl Record {
-    /// `SLOT DIRECTION TYPE FACTOR INDEX USER TFCI TPC`, as docs/COMPARISON.md and docs/LESSONS.md have it.
+    /// `SLOT DIRECTION TYPE FACTOR INDEX USER TFCI TPC`, as docs/LESSONS.md has it.
     pub fn words(&self) -> String {
         format!(
             "{} {} {} {} {} {} {} {}",
@@ -155,8 +155,8 @@ struct OpenSeat {
 pub struct Book {
     /// Seat 0 to seat 15; nothing where a seat is closed.
     seats: Vec<Option<OpenSeat>>,
-    /// "The book breaks its conditions" (refusal 12). No call ever makes it so: it is for tests that hand damaged memory
-    /// to the library.
+    /// "The book breaks its conditions" (refusal 12). No call ever makes it so: it is for tests that hand damaged
+    /// memory to the library.
     pub damaged: bool,
 }
 
@@ -192,10 +192,7 @@ fn refuse_bad_booking(wanted: &Record) -> Answer<()> {
 impl Book {
     /// "An empty book, with no seat open."
     pub fn empty() -> Book {
-        Book {
-            seats: vec![None; SEATS as usize],
-            damaged: false,
-        }
+        Book { seats: vec![None; SEATS as usize], damaged: false }
     }
 
     /// Opens a seat. Refusals 1, 3, 9, 12, 13, 15.
@@ -203,10 +200,8 @@ impl Book {
         settings.refusals()?;
         let place = self.place(seat)?;
         refuse_if(self.seats[place].is_some(), 15)?;
-        self.seats[place] = Some(OpenSeat {
-            settings: settings.without_zeros(),
-            bookings: Vec::new(),
-        });
+        self.seats[place] =
+            Some(OpenSeat { settings: settings.without_zeros(), bookings: Vec::new() });
         Ok(())
     }
 
@@ -295,10 +290,6 @@ impl Book {
 
     /// "The sum over all seats of what each holds beyond 10."
     fn held_beyond_own_room(&self) -> usize {
-        self.seats
-            .iter()
-            .flatten()
-            .map(|open| open.bookings.len().saturating_sub(OWN_ROOM))
-            .sum()
+        self.seats.iter().flatten().map(|open| open.bookings.len().saturating_sub(OWN_ROOM)).sum()
     }
 }

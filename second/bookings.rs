@@ -6,11 +6,8 @@ use crate::timeslots::{Direction, LAST_TIMESLOT};
 
 /// A timeslot, and whether it is one of the beacons. Of a hundred, so many aim at a beacon.
 fn some_timeslot(dice: &mut Dice, at_beacons: u32, beacons: &[u32]) -> (u32, bool) {
-    let timeslot = if dice.percent(at_beacons) {
-        dice.pick(beacons)
-    } else {
-        dice.between(0, LAST_TIMESLOT)
-    };
+    let timeslot =
+        if dice.percent(at_beacons) { dice.pick(beacons) } else { dice.between(0, LAST_TIMESLOT) };
     (timeslot, beacons.contains(&timeslot))
 }
 
@@ -20,11 +17,7 @@ fn with_control_bits(dice: &mut Dice, record: Record) -> Record {
         Direction::Up => dice.pick(&[0, 2]),
         Direction::Down => 0,
     };
-    Record {
-        tfci_bits: dice.pick(&[0, 0, 4, 8, 16, 32]),
-        tpc_bits,
-        ..record
-    }
+    Record { tfci_bits: dice.pick(&[0, 0, 4, 8, 16, 32]), tpc_bits, ..record }
 }
 
 /// A factor within the rules; mostly 16, so that a timeslot takes many bookings.
@@ -53,27 +46,15 @@ pub fn aimed(dice: &mut Dice, at_beacons: u32, settings: Settings, held: &[Recor
         (direction, burst_type) = (there.direction, there.burst_type);
     }
     let crowded = held.len() > MOST_OF_A_SEAT / 2;
-    let factor = if crowded {
-        16
-    } else {
-        small_code_factor(dice, direction)
-    };
+    let factor = if crowded { 16 } else { small_code_factor(dice, direction) };
     let index = dice.between(1, factor);
     let user = if beacon && (factor, index) == (16, 1) {
         1
     } else {
         dice.between(1, settings.count(burst_type))
     };
-    let record = Record {
-        timeslot,
-        direction,
-        burst_type,
-        factor,
-        index,
-        user,
-        tfci_bits: 0,
-        tpc_bits: 0,
-    };
+    let record =
+        Record { timeslot, direction, burst_type, factor, index, user, tfci_bits: 0, tpc_bits: 0 };
     with_control_bits(dice, record)
 }
 
@@ -124,18 +105,9 @@ fn near_the_beacon_rule(dice: &mut Dice, record: Record) -> Record {
 pub fn to_cancel(dice: &mut Dice, held: &[Record]) -> [u32; 3] {
     if held.is_empty() || dice.one_in(15) {
         let factor = dice.pick(&[1, 2, 4, 8, 16]);
-        return [
-            dice.between(0, LAST_TIMESLOT),
-            factor,
-            dice.between(1, factor),
-        ];
+        return [dice.between(0, LAST_TIMESLOT), factor, dice.between(1, factor)];
     }
-    let Record {
-        timeslot,
-        factor,
-        index,
-        ..
-    } = dice.pick(held);
+    let Record { timeslot, factor, index, .. } = dice.pick(held);
     if factor > 1 && dice.one_in(20) {
         [timeslot, factor / 2, index.div_ceil(2)]
     } else if factor < 16 && dice.one_in(10) {

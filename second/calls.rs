@@ -11,30 +11,15 @@ pub struct Form {
 /// The table. Reading a line goes by its first column: after the call's own word, `up|down` stands for a direction,
 /// SETTINGS and BITS for words of the digits 0 and 1, and every other word for a number.
 pub const FORMS: [Form; 15] = [
-    Form {
-        call: "open SEAT CELL CASE K LONG SHORT",
-        reply: "ok",
-    },
-    Form {
-        call: "book SEAT SLOT up|down TYPE FACTOR INDEX USER TFCI TPC",
-        reply: "ok",
-    },
-    Form {
-        call: "cancel SEAT SLOT FACTOR INDEX",
-        reply: "ok",
-    },
-    Form {
-        call: "close SEAT",
-        reply: "ok",
-    },
+    Form { call: "open SEAT CELL CASE K LONG SHORT", reply: "ok" },
+    Form { call: "book SEAT SLOT up|down TYPE FACTOR INDEX USER TFCI TPC", reply: "ok" },
+    Form { call: "cancel SEAT SLOT FACTOR INDEX", reply: "ok" },
+    Form { call: "close SEAT", reply: "ok" },
     Form {
         call: "list SEAT",
         reply: "list N, then N lines SLOT up|down TYPE FACTOR INDEX USER TFCI TPC",
     },
-    Form {
-        call: "chip CELL TYPE COUNT USER I",
-        reply: "chip P",
-    },
+    Form { call: "chip CELL TYPE COUNT USER I", reply: "chip P" },
     Form {
         call: "midamble CELL TYPE COUNT USER",
         reply: "midamble and the chips as digits 0 to 3 with no blanks between",
@@ -47,30 +32,15 @@ pub const FORMS: [Form; 15] = [
         call: "at TYPE up|down FACTOR TFCI TPC CHIP",
         reply: "data1 N, tfci1 N, midamble N, tpc N, tfci2 N, data2 N or guard N",
     },
-    Form {
-        call: "beacon CASE K",
-        reply: "beacon and one or two timeslots",
-    },
-    Form {
-        call: "indicator TYPE L F PI",
-        reply: "frame X q Y bits A..B C..D",
-    },
-    Form {
-        call: "page TYPE L SETTINGS",
-        reply: "bits and 244 or 276 digits in time order",
-    },
+    Form { call: "beacon CASE K", reply: "beacon and one or two timeslots" },
+    Form { call: "indicator TYPE L F PI", reply: "frame X q Y bits A..B C..D" },
+    Form { call: "page TYPE L SETTINGS", reply: "bits and 244 or 276 digits in time order" },
     Form {
         call: "read TYPE L BITS",
         reply: "settings and one digit for each q: 0, 1 or 2 for torn",
     },
-    Form {
-        call: "owner TYPE L BIT",
-        reply: "q Y or reserved",
-    },
-    Form {
-        call: "help",
-        reply: "the table above",
-    },
+    Form { call: "owner TYPE L BIT", reply: "q Y or reserved" },
+    Form { call: "help", reply: "the table above" },
 ];
 
 impl Form {
@@ -138,10 +108,8 @@ impl Call {
 
 /// The words of a line: "`#` starts a comment wherever it stands", "words are parted by blanks: space, tab and CR".
 fn words(line: &[u8]) -> Vec<&[u8]> {
-    let before_comment = line
-        .split(|byte| *byte == b'#')
-        .next()
-        .expect("split gives at least one part");
+    let before_comment =
+        line.split(|byte| *byte == b'#').next().expect("split gives at least one part");
     before_comment
         .split(|byte| [b' ', b'\t', b'\r'].contains(byte))
         .filter(|word| !word.is_empty())
@@ -185,10 +153,9 @@ fn value(wanted: &str, word: &[u8]) -> Result<Value, String> {
             },
             "up or down".to_string(),
         ),
-        "SETTINGS" | "BITS" => (
-            digits(word).map(Value::Digits),
-            format!("{wanted} of the digits 0 and 1"),
-        ),
+        "SETTINGS" | "BITS" => {
+            (digits(word).map(Value::Digits), format!("{wanted} of the digits 0 and 1"))
+        }
         _ => (
             number(word).map(Value::Number),
             format!("{wanted} as a number of at most {}", u32::MAX),
@@ -217,8 +184,5 @@ pub fn read(line: &[u8]) -> Result<Option<Call>, String> {
             .map_err(|expected| format!("expected {expected} in: {}", form.call))?;
         values.push(value);
     }
-    Ok(Some(Call {
-        name: form.name(),
-        values,
-    }))
+    Ok(Some(Call { name: form.name(), values }))
 }

@@ -73,8 +73,6 @@ impl Dice {
 
     /// That many digits 0 and 1.
     pub fn binary_digits(&mut self, length: u32) -> String {
-        (0..length)
-            .map(|_| if self.one_in(2) { '1' } else { '0' })
-            .collect()
+        (0..length).map(|_| if self.one_in(2) { '1' } else { '0' }).collect()
     }
 }

@@ -68,10 +68,7 @@ pub struct Bench<'a> {
 
 impl Bench<'_> {
     pub fn new(rows: &Rows) -> Bench<'_> {
-        Bench {
-            book: Book::empty(),
-            rows,
-        }
+        Bench { book: Book::empty(), rows }
     }
 
     /// The reply to a line, each of its lines with its LF; nothing for a line without words.
@@ -113,13 +110,7 @@ impl Bench<'_> {
 
     fn open(&mut self, call: &Call) -> Answer<String> {
         let [seat, cell, case, k, long_count, short_count] = call.numbers();
-        let settings = Settings {
-            cell,
-            case,
-            k,
-            long_count,
-            short_count,
-        };
+        let settings = Settings { cell, case, k, long_count, short_count };
         self.book.open(seat, settings).map(ok)
     }
 
@@ -198,13 +189,8 @@ fn parts(call: &Call) -> Answer<String> {
 
 fn what_lies_at(call: &Call) -> Answer<String> {
     let [burst_type, factor, tfci_bits, tpc_bits, chip] = call.numbers();
-    let question = Question {
-        burst_type,
-        direction: call.direction(),
-        factor,
-        tfci_bits,
-        tpc_bits,
-    };
+    let question =
+        Question { burst_type, direction: call.direction(), factor, tfci_bits, tpc_bits };
     at(&question, chip).map(label_words)
 }
 
@@ -240,9 +226,7 @@ fn owner_of_bit(call: &Call) -> Answer<String> {
 
 /// The table of docs/LESSONS.md, `CALL -> REPLY` on each line.
 fn help() -> String {
-    let lines: Vec<String> = FORMS
-        .iter()
-        .map(|form| format!("{} -> {}", form.call, form.reply))
-        .collect();
+    let lines: Vec<String> =
+        FORMS.iter().map(|form| format!("{} -> {}", form.call, form.reply)).collect();
     lines.join("\n")
 }

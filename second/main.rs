@@ -1,32 +1,6 @@
-//! The second, independent program: plain Rust, standard library only, written from document 01 (docs/01-scope.md of the
-//! order) and the line format of docs/COMPARISON.md, without sight of the proved library. It prints what the proved
-//! library's own programs print, and `./test` compares the two byte by byte.
-//!
-//! The rules stand here as naively as they stand in document 01; a module is a chapter of it. It also answers lessons as
-//! docs/LESSONS.md has them, and makes random ones for both programs to answer.
-//!
-//! Build: `rustc --edition 2021 -O second/main.rs -o second-program`
+//! The second program's command line; what it does is in lib.rs.
 
-mod beacons;
-mod book;
-mod book_print;
-mod bookings;
-mod calls;
-mod dice;
-mod digest;
-mod lesson;
-mod midambles;
-mod moods;
-mod noise;
-mod paging;
-mod questions;
-mod random;
-mod refusals;
-mod rows;
-mod scribbles;
-mod selftest;
-mod timeslots;
-
+use second::{every, lesson, noise, random, rows, selftest};
 use std::env;
 use std::fs;
 use std::io::{self, BufWriter, Write};
@@ -35,12 +9,8 @@ use std::process::ExitCode;
 const USAGE: &str = "\
 second: the independent program that the proved library is compared with
 
-  second midambles              the section `midambles` of docs/COMPARISON.md
-  second timeslots              the section `timeslots`
-  second beacons                the section `beacons`
-  second paging                 the section `paging`
-  second book                   the section `book`
   second lesson                 answers standard input as docs/LESSONS.md says
+  second every                  a lesson of every question that docs/COMPARISON.md lists
   second random SEED LINES      a random lesson of that many lines; SEED mod 7 is its mood: 0 modest, 1 damaged,
                                 2 greedy, 3 busy, 4 beacons, 5 scribbled, 6 changing
   second noise SEED BYTES       that many random bytes for the input of a lesson
@@ -64,10 +34,8 @@ impl From<io::Error> for Failure {
 }
 
 fn main() -> ExitCode {
-    let words: Vec<String> = env::args_os()
-        .skip(1)
-        .map(|word| word.to_string_lossy().into_owned())
-        .collect();
+    let words: Vec<String> =
+        env::args_os().skip(1).map(|word| word.to_string_lossy().into_owned()).collect();
     let words: Vec<&str> = words.iter().map(String::as_str).collect();
     let (message, code) = match run(&words) {
         Ok(()) => return ExitCode::SUCCESS,
@@ -85,12 +53,8 @@ fn run(words: &[&str]) -> Result<(), Failure> {
     let mut out = BufWriter::new(io::stdout().lock());
     match words {
         [] | ["--help"] => out.write_all(USAGE.as_bytes())?,
-        ["midambles"] => midambles::print(&mut out, &kept_rows()?)?,
-        ["timeslots"] => timeslots::print(&mut out)?,
-        ["beacons"] => beacons::print(&mut out)?,
-        ["paging"] => paging::print(&mut out)?,
-        ["book"] => book_print::print(&mut out)?,
         ["lesson"] => lesson::run(&mut io::stdin().lock(), &mut out, &kept_rows()?)?,
+        ["every"] => every::print(&mut out)?,
         ["random", seed, lines] => {
             random::print(&mut out, number(seed)?, number(lines)?, &kept_rows()?)?
         }
@@ -109,25 +73,17 @@ fn run(words: &[&str]) -> Result<(), Failure> {
         }
         ["rows-from", source] => out.write_all(rows_from(source)?.as_bytes())?,
         ["rows-from", ..] => {
-            return Err(Failure::Words(
-                "rows-from takes one word, the source file".to_string(),
-            ))
+            return Err(Failure::Words("rows-from takes one word, the source file".to_string()))
         }
         ["selftest"] => {
             let all_right = selftest::print(&mut out, &kept_rows()?)?;
             out.flush()?;
             if !all_right {
-                return Err(Failure::Work(
-                    "a figure of document 01 is not met".to_string(),
-                ));
+                return Err(Failure::Work("a figure of document 01 is not met".to_string()));
             }
         }
-        ["--help" | "midambles" | "timeslots" | "beacons" | "paging" | "book" | "lesson"
-        | "selftest", ..] => {
-            return Err(Failure::Words(format!(
-                "{} takes no further word",
-                words[0]
-            )));
+        ["--help" | "lesson" | "every" | "selftest", ..] => {
+            return Err(Failure::Words(format!("{} takes no further word", words[0])));
         }
         [unknown, ..] => return Err(Failure::Words(format!("unknown command {unknown:?}"))),
     }
@@ -137,8 +93,7 @@ fn run(words: &[&str]) -> Result<(), Failure> {
 
 /// A number of the command line.
 fn number(word: &str) -> Result<u64, Failure> {
-    word.parse()
-        .map_err(|_| Failure::Words(format!("{word:?} is no number")))
+    word.parse().map_err(|_| Failure::Words(format!("{word:?} is no number")))
 }
 
 /// The rows of `rows-004.txt`.

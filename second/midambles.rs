@@ -1,9 +1,7 @@
 //! Document 01, "Training sequences (clause 5.2.3, Annex A)".
 
-use crate::digest::{digest_of_bytes, lent_memory};
-use crate::refusals::{in_words, refuse_if, refuse_unknown_type, written, Answer};
-use crate::rows::{self, Rows, ROWS};
-use std::io::{self, Write};
+use crate::refusals::{refuse_if, refuse_unknown_type, Answer};
+use crate::rows::Rows;
 
 /// One column set of the section's table: "types 1, 3" or "type 2".
 pub struct Family {
@@ -53,11 +51,7 @@ pub fn family(burst_type: u32) -> &'static Family {
 
 /// The row of a cell parameter: "Row n belongs to cell parameter n."
 fn row(rows: &Rows, cell: u32, burst_type: u32) -> &str {
-    let table = if burst_type == 2 {
-        &rows.short
-    } else {
-        &rows.long
-    };
+    let table = if burst_type == 2 { &rows.short } else { &rows.long };
     &table[cell as usize]
 }
 
@@ -87,9 +81,7 @@ fn power_of_j(i: usize) -> Complex {
 fn elements_of_row(digits: &str) -> Vec<i32> {
     let mut elements = Vec::new();
     for digit in digits.chars() {
-        let value = digit
-            .to_digit(16)
-            .expect("rows are checked to be hexadecimal digits");
+        let value = digit.to_digit(16).expect("rows are checked to be hexadecimal digits");
         for bit in [8, 4, 2, 1] {
             elements.push(if value & bit != 0 { 1 } else { -1 });
         }
@@ -97,36 +89,24 @@ fn elements_of_row(digits: &str) -> Vec<i32> {
     elements
 }
 
-/// The complex basic sequence, i = 1 to P: element i is j to the power i, times the row's element. Place 0 of the result
-/// is element 1.
+/// The complex basic sequence, i = 1 to P: element i is j to the power i, times the row's element. Place 0 of the
+/// result is element 1.
 fn complex_period(digits: &str, family: &Family) -> Vec<Complex> {
     let row_elements = elements_of_row(digits);
     (1..=family.period)
-        .map(|i| {
-            power_of_j(i).times(Complex {
-                re: row_elements[i - 1],
-                im: 0,
-            })
-        })
+        .map(|i| power_of_j(i).times(Complex { re: row_elements[i - 1], im: 0 }))
         .collect()
 }
 
 /// "Beyond P the sequence repeats": the sequence up to the last element read.
 fn extended(digits: &str, family: &Family) -> Vec<Complex> {
     let period = complex_period(digits, family);
-    period
-        .iter()
-        .copied()
-        .cycle()
-        .take(family.last_element)
-        .collect()
+    period.iter().copied().cycle().take(family.last_element).collect()
 }
 
 /// "A chip is written as its power of j, 0 to 3, in one byte."
 fn written_chip(chip: Complex) -> u8 {
-    (0..4)
-        .find(|power| power_of_j(*power) == chip)
-        .expect("a chip is a power of j") as u8
+    (0..4).find(|power| power_of_j(*power) == chip).expect("a chip is a power of j") as u8
 }
 
 /// The extended sequence of a cell, each element written as its power of j. Place 0 is element 1.
@@ -193,132 +173,10 @@ pub fn whole_midamble(
     Ok(length)
 }
 
-/// docs/COMPARISON.md, `midambles` 2: the least S for which every chip i of that user in cell 0 is element i + S, found
+/// The least S for which every chip i of that user in cell 0 is element i + S, found
 /// by trying 0, 1, 2, .. and not by the formula.
 pub fn least_shift(rows: &Rows, burst_type: u32, user: u32) -> Option<usize> {
     let all = elements(rows, 0, burst_type);
     let chips = chips(rows, 0, burst_type, user);
     (0..=all.len() - chips.len()).find(|s| all[*s..*s + chips.len()] == chips[..])
-}
-
-/// docs/COMPARISON.md, `midambles`.
-pub fn print(out: &mut dyn Write, rows: &Rows) -> io::Result<()> {
-    print_single_chips(out, rows)?;
-    print_shifts(out, rows)?;
-    print_whole_midambles(out, rows)?;
-    out.write_all(rows::as_text(rows).as_bytes())?;
-    print_digests(out, rows)
-}
-
-/// The questions of `midambles` 1: cell, type, count, user, chip.
-fn single_chip_questions() -> Vec<[u32; 5]> {
-    let mut questions = Vec::new();
-    questions.extend((1..=8).map(|i| [0, 1, 16, 8, i]));
-    questions.extend((453..=460).map(|i| [0, 1, 16, 8, i]));
-    questions.extend([
-        [0, 1, 8, 9, 1],
-        [0, 1, 16, 0, 1],
-        [0, 1, 16, 16, 1],
-        [0, 1, 16, 17, 1],
-        [0, 3, 8, 9, 1],
-    ]);
-    questions.extend([
-        [0, 3, 16, 9, 1],
-        [0, 2, 3, 4, 1],
-        [0, 2, 6, 4, 1],
-        [0, 2, 6, 6, 1],
-        [0, 2, 6, 7, 1],
-    ]);
-    questions.extend([127, 128, u32::MAX].map(|cell| [cell, 1, 8, 1, 1]));
-    questions.extend([0, 1, 2, 3, 4, u32::MAX].map(|burst_type| [0, burst_type, 8, 1, 1]));
-    questions.extend([0, 3, 4, 6, 8, 16].map(|count| [0, 2, count, 1, 1]));
-    questions.extend([0, 3, 6, 7, 8, 9, 16, u32::MAX].map(|count| [0, 1, count, 1, 1]));
-    questions.extend([0, 1, 512, 513, u32::MAX].map(|i| [0, 1, 8, 1, i]));
-    questions.extend([0, 1, 256, 257].map(|i| [0, 2, 3, 1, i]));
-    questions.extend([512, 513].map(|i| [0, 3, 16, 16, i]));
-    questions.extend([
-        [128, 0, 9, 0, 0],
-        [127, 0, 9, 0, 0],
-        [127, 1, 9, 0, 0],
-        [127, 1, 8, 0, 0],
-        [127, 1, 8, 1, 0],
-    ]);
-    questions
-}
-
-/// `midambles` 1.
-fn print_single_chips(out: &mut dyn Write, rows: &Rows) -> io::Result<()> {
-    for [cell, burst_type, count, user, i] in single_chip_questions() {
-        let answer = one_chip(rows, cell, burst_type, count, user, i);
-        let words = in_words(answer, |power| power.to_string());
-        writeln!(out, "chip {cell} {burst_type} {count} {user} {i}: {words}")?;
-    }
-    Ok(())
-}
-
-/// `midambles` 2.
-fn print_shifts(out: &mut dyn Write, rows: &Rows) -> io::Result<()> {
-    for (burst_type, count) in [(1, 16), (2, 6), (3, 16)] {
-        for user in 1..=count {
-            let shift = least_shift(rows, burst_type, user)
-                .expect("the user's own shift is one of those tried");
-            writeln!(out, "shift {burst_type} {count} {user}: {shift}")?;
-        }
-    }
-    Ok(())
-}
-
-/// The questions of `midambles` 3: cell, type, count, user, length of the lent memory.
-fn whole_midamble_questions() -> Vec<[u32; 5]> {
-    let mut questions = Vec::new();
-    questions.extend([0, 1, 511, 512, 513, 600].map(|length| [5, 1, 16, 9, length]));
-    questions.extend([0, 1, 255, 256, 257, 600].map(|length| [6, 2, 6, 4, length]));
-    questions.extend([511, 512, 600].map(|length| [7, 3, 8, 8, length]));
-    questions.extend([
-        [128, 1, 16, 9, 600],
-        [5, 0, 16, 9, 600],
-        [5, 1, 15, 9, 600],
-        [5, 1, 8, 9, 600],
-    ]);
-    questions.extend([[5, 1, 16, 17, 10], [128, 0, 0, 0, 0]]);
-    questions
-}
-
-/// `midambles` 3.
-fn print_whole_midambles(out: &mut dyn Write, rows: &Rows) -> io::Result<()> {
-    for [cell, burst_type, count, user, length] in whole_midamble_questions() {
-        let mut memory = lent_memory(length as usize);
-        let answer = written(whole_midamble(
-            rows,
-            cell,
-            burst_type,
-            count,
-            user,
-            &mut memory,
-        ));
-        let digest = digest_of_bytes(&memory);
-        writeln!(
-            out,
-            "midamble {cell} {burst_type} {count} {user} {length}: {answer} {digest}"
-        )?;
-    }
-    Ok(())
-}
-
-/// `midambles` 5.
-fn print_digests(out: &mut dyn Write, rows: &Rows) -> io::Result<()> {
-    for (burst_type, count) in [(1, 8), (1, 16), (2, 3), (2, 6), (3, 8), (3, 16)] {
-        for cell in 0..ROWS as u32 {
-            write!(out, "digests {burst_type} {count} {cell}:")?;
-            for user in 1..=count {
-                write!(
-                    out,
-                    " {}",
-                    digest_of_bytes(&chips(rows, cell, burst_type, user))
-                )?;
-            }
-            writeln!(out)?;
-        }
-    }
-    Ok(())
 }

@@ -31,14 +31,8 @@ const MOODS: [Mood; 7] = [
 ];
 
 /// The moods that `Mood::Changing` changes between.
-pub const LASTING_MOODS: [Mood; 6] = [
-    Mood::Modest,
-    Mood::Damaged,
-    Mood::Greedy,
-    Mood::Busy,
-    Mood::Beacons,
-    Mood::Scribbled,
-];
+pub const LASTING_MOODS: [Mood; 6] =
+    [Mood::Modest, Mood::Damaged, Mood::Greedy, Mood::Busy, Mood::Beacons, Mood::Scribbled];
 
 /// How a mood behaves.
 #[derive(Clone, Copy)]
@@ -91,35 +85,13 @@ impl Mood {
     pub fn manners(self) -> Manners {
         match self {
             Mood::Modest | Mood::Changing => MODEST,
-            Mood::Damaged => Manners {
-                damaged: 60,
-                scribbled: 5,
-                ..MODEST
-            },
-            Mood::Greedy => Manners {
-                favourites: true,
-                cancel_weight: 3,
-                close_weight: 3,
-                blind: 5,
-                ..MODEST
-            },
-            Mood::Busy => Manners {
-                seats: [16, 16],
-                cancel_weight: 30,
-                close_weight: 5,
-                ..MODEST
-            },
-            Mood::Beacons => Manners {
-                seats: [3, 8],
-                blind: 40,
-                at_beacons: 60,
-                ..MODEST
-            },
-            Mood::Scribbled => Manners {
-                damaged: 10,
-                scribbled: 35,
-                ..MODEST
-            },
+            Mood::Damaged => Manners { damaged: 60, scribbled: 5, ..MODEST },
+            Mood::Greedy => {
+                Manners { favourites: true, cancel_weight: 3, close_weight: 3, blind: 5, ..MODEST }
+            }
+            Mood::Busy => Manners { seats: [16, 16], cancel_weight: 30, close_weight: 5, ..MODEST },
+            Mood::Beacons => Manners { seats: [3, 8], blind: 40, at_beacons: 60, ..MODEST },
+            Mood::Scribbled => Manners { damaged: 10, scribbled: 35, ..MODEST },
         }
     }
 }

@@ -97,11 +97,7 @@ fn with_a_byte_damaged(dice: &mut Dice, mut line: Vec<u8>) -> Vec<u8> {
         return line;
     }
     let place = dice.place(line.len());
-    let byte = if dice.one_in(2) {
-        dice.byte()
-    } else {
-        dice.pick(ALPHABET)
-    };
+    let byte = if dice.one_in(2) { dice.byte() } else { dice.pick(ALPHABET) };
     match dice.below(5) {
         0 => line[place] = byte,
         1 => line[place] ^= 1 << dice.below(8),

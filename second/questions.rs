@@ -24,11 +24,7 @@ pub fn question(dice: &mut Dice) -> String {
 fn user_of_a_cell(dice: &mut Dice) -> (String, u32) {
     let cell = dice.below(128);
     let burst_type = dice.between(1, 3);
-    let (counts, length) = if burst_type == 2 {
-        ([3, 6], 256)
-    } else {
-        ([8, 16], 512)
-    };
+    let (counts, length) = if burst_type == 2 { ([3, 6], 256) } else { ([8, 16], 512) };
     let count = dice.pick(&counts);
     let user = dice.between(1, count);
     (format!("{cell} {burst_type} {count} {user}"), length)
@@ -80,11 +76,7 @@ fn beacon(dice: &mut Dice) -> String {
 fn pich(dice: &mut Dice) -> (String, u32, u32) {
     let (burst_type, carrying_bits) = dice.pick(&[(1, 240), (2, 272)]);
     let length = dice.pick(&[2, 4, 8]);
-    (
-        format!("{burst_type} {length}"),
-        carrying_bits / (2 * length),
-        carrying_bits + 4,
-    )
+    (format!("{burst_type} {length}"), carrying_bits / (2 * length), carrying_bits + 4)
 }
 
 fn indicator(dice: &mut Dice) -> String {

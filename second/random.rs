@@ -1,7 +1,7 @@
 //! Random lessons: `second random SEED LINES`. The same seed gives the same lesson.
 //!
-//! The writer of a lesson keeps a class book of its own, on which it makes the calls that it writes, so that it can aim:
-//! at bookings that are accepted, and at those that only lack room.
+//! The writer of a lesson keeps a class book of its own, on which it makes the calls that it writes, so that it can
+//! aim: at bookings that are accepted, and at those that only lack room.
 
 use crate::book::{Record, Settings, SEATS};
 use crate::bookings::{aimed, blind, to_cancel};

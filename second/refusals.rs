@@ -56,8 +56,3 @@ pub fn in_words<T>(answer: Answer<T>, show: impl Fn(T) -> String) -> String {
         Err(number) => format!("refused {number}"),
     }
 }
-
-/// `written N` or `refused N`, for the calls that write into lent memory.
-pub fn written(answer: Answer<usize>) -> String {
-    in_words(answer, |count| format!("written {count}"))
-}

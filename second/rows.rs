@@ -58,10 +58,7 @@ struct Found {
 
 /// The rows kept in `rows-004.txt`.
 pub fn kept() -> Result<Rows, String> {
-    let found = KEPT
-        .lines()
-        .map(kept_row)
-        .collect::<Result<Vec<Found>, String>>()?;
+    let found = KEPT.lines().map(kept_row).collect::<Result<Vec<Found>, String>>()?;
     checked(&found)
 }
 
@@ -71,21 +68,11 @@ fn kept_row(line: &str) -> Result<Found, String> {
     let table = match words.first() {
         Some(&"long") => Table::Long,
         Some(&"short") => Table::Short,
-        _ => {
-            return Err(format!(
-                "kept row begins neither with long nor with short: {line}"
-            ))
-        }
+        _ => return Err(format!("kept row begins neither with long nor with short: {line}")),
     };
     match (words.len(), words.get(1).map(|label| label.parse())) {
-        (3, Some(Ok(label))) => Ok(Found {
-            table,
-            label,
-            digits: words[2].to_string(),
-        }),
-        _ => Err(format!(
-            "kept row is not a word, a number and digits: {line}"
-        )),
+        (3, Some(Ok(label))) => Ok(Found { table, label, digits: words[2].to_string() }),
+        _ => Err(format!("kept row is not a word, a number and digits: {line}")),
     }
 }
 
@@ -96,11 +83,7 @@ pub fn from_source(text: &str) -> Result<Rows, String> {
     let mut inside_a_row = false;
     for word in text.split_whitespace() {
         if let Some((table, label)) = label_of_source(word) {
-            found.push(Found {
-                table,
-                label,
-                digits: String::new(),
-            });
+            found.push(Found { table, label, digits: String::new() });
             inside_a_row = true;
         } else if word.contains('.') {
             inside_a_row = false;
@@ -140,23 +123,13 @@ fn checked_table(found: &[Found], table: Table, damage: &mut Vec<String>) -> Vec
     let rows: Vec<&Found> = found.iter().filter(|row| row.table == table).collect();
     let name = table.word();
     if rows.len() != ROWS {
-        damage.push(format!(
-            "{name}: {} rows found in place of {ROWS}",
-            rows.len()
-        ));
+        damage.push(format!("{name}: {} rows found in place of {ROWS}", rows.len()));
     }
     for (place, row) in rows.iter().enumerate() {
         if row.label != place {
-            damage.push(format!(
-                "{name}: the row in place {place} is labelled {}",
-                row.label
-            ));
+            damage.push(format!("{name}: the row in place {place} is labelled {}", row.label));
         }
-        if !row
-            .digits
-            .chars()
-            .all(|digit| "0123456789ABCDEF".contains(digit))
-        {
+        if !row.digits.chars().all(|digit| "0123456789ABCDEF".contains(digit)) {
             damage.push(format!(
                 "{name} {}: not all capital hexadecimal digits: {}",
                 row.label, row.digits

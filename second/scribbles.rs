@@ -65,9 +65,7 @@ fn damaged_number(dice: &mut Dice, right: u32) -> u32 {
 
 /// A place among those of the words that are right by `wanted`, or nothing if there is none.
 fn some_place(dice: &mut Dice, words: &[String], wanted: fn(&str) -> bool) -> Option<usize> {
-    let places: Vec<usize> = (1..words.len())
-        .filter(|place| wanted(&words[*place]))
-        .collect();
+    let places: Vec<usize> = (1..words.len()).filter(|place| wanted(&words[*place])).collect();
     if places.is_empty() {
         None
     } else {
@@ -154,10 +152,7 @@ fn without_a_word(dice: &mut Dice, call: &str) -> String {
 fn with_a_word(dice: &mut Dice, call: &str) -> String {
     let mut words = words_of(call);
     let place = dice.place(words.len() + 1);
-    words.insert(
-        place,
-        dice.pick(&["0", "1", "16", "up", "x", "list"]).to_string(),
-    );
+    words.insert(place, dice.pick(&["0", "1", "16", "up", "x", "list"]).to_string());
     words.join(" ")
 }
 
@@ -199,11 +194,7 @@ pub fn scribbled(dice: &mut Dice, call: &str) -> String {
         4 => with_a_word(dice, call),
         5 | 6 => with_word_replaced(dice, call, is_number, &NO_NUMBERS),
         7 => with_word_replaced(dice, call, is_direction, &NO_DIRECTIONS),
-        8 => format!(
-            "page 1 2 {}{}",
-            "01".repeat(30),
-            dice.pick(&["2", "x", " 1", "-"])
-        ),
+        8 => format!("page 1 2 {}{}", "01".repeat(30), dice.pick(&["2", "x", " 1", "-"])),
         9 => glued(dice, call),
         10 => stretched(dice, call),
         _ => oddly_spelled(dice, call),

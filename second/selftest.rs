@@ -2,7 +2,6 @@
 
 use crate::beacons::{beacon_timeslots, words};
 use crate::book::{Book, Record, Settings, MOST_OF_A_SEAT};
-use crate::book_print::plain;
 use crate::lesson::NO_BOOKING;
 use crate::midambles::{family, least_shift, one_chip, shift};
 use crate::paging::{indicator, owner, owner_words, place_words};
@@ -20,22 +19,13 @@ struct Figure {
 }
 
 fn figure(name: &str, given: impl ToString, wanted: impl ToString) -> Figure {
-    Figure {
-        name: name.to_string(),
-        given: given.to_string(),
-        wanted: wanted.to_string(),
-    }
+    Figure { name: name.to_string(), given: given.to_string(), wanted: wanted.to_string() }
 }
 
 /// Prints a line for each figure, and says whether all are right.
 pub fn print(out: &mut dyn Write, rows: &Rows) -> io::Result<bool> {
     let mut all_right = true;
-    for Figure {
-        name,
-        given,
-        wanted,
-    } in figures(rows)
-    {
+    for Figure { name, given, wanted } in figures(rows) {
         if given == wanted {
             writeln!(out, "ok {name}: {given}")?;
         } else {
@@ -75,39 +65,17 @@ fn row_figures(rows: &Rows) -> Vec<Figure> {
 }
 
 fn midamble_figures(rows: &Rows) -> Vec<Figure> {
-    let chip = |count, user, i| {
-        in_words(one_chip(rows, 0, 1, count, user, i), |power| {
-            power.to_string()
-        })
-    };
-    let chips = |from, to| {
-        (from..=to)
-            .map(|i| chip(16, 8, i))
-            .collect::<Vec<String>>()
-            .join(",")
-    };
+    let chip =
+        |count, user, i| in_words(one_chip(rows, 0, 1, count, user, i), |power| power.to_string());
+    let chips = |from, to| (from..=to).map(|i| chip(16, 8, i)).collect::<Vec<String>>().join(",");
     let joined = |shifts: Vec<usize>| {
-        shifts
-            .iter()
-            .map(usize::to_string)
-            .collect::<Vec<String>>()
-            .join(", ")
+        shifts.iter().map(usize::to_string).collect::<Vec<String>>().join(", ")
     };
     let by_formula = |burst_type, users: &[usize]| {
-        joined(
-            users
-                .iter()
-                .map(|k| shift(family(burst_type), *k))
-                .collect(),
-        )
+        joined(users.iter().map(|k| shift(family(burst_type), *k)).collect())
     };
     let by_search = |burst_type, users: &[usize]| {
-        joined(
-            users
-                .iter()
-                .filter_map(|k| least_shift(rows, burst_type, *k as u32))
-                .collect(),
-        )
+        joined(users.iter().filter_map(|k| least_shift(rows, burst_type, *k as u32)).collect())
     };
     let last_element = |burst_type| {
         let family = family(burst_type);
@@ -120,11 +88,7 @@ fn midamble_figures(rows: &Rows) -> Vec<Figure> {
     let all_short = [1, 2, 3, 4, 5, 6];
     vec![
         figure("user 8, chips 1 to 8", chips(1, 8), "1,0,1,2,1,2,1,0"),
-        figure(
-            "user 8, chips 453 to 460",
-            chips(453, 460),
-            "3,2,1,2,1,0,1,2",
-        ),
+        figure("user 8, chips 453 to 460", chips(453, 460), "3,2,1,2,1,0,1,2"),
         figure(
             "shifts, count 16, by the formula",
             by_formula(1, &six_users),
@@ -140,20 +104,12 @@ fn midamble_figures(rows: &Rows) -> Vec<Figure> {
             by_formula(2, &all_short),
             "128, 64, 0, 96, 32, 160",
         ),
-        figure(
-            "shifts, count 6, by search",
-            by_search(2, &all_short),
-            "128, 64, 0, 96, 32, 160",
-        ),
+        figure("shifts, count 6, by search", by_search(2, &all_short), "128, 64, 0, 96, 32, 160"),
         figure("last long element read", last_element(1), 939),
         figure("last short element read", last_element(2), 416),
         figure("user 9, count 8", chip(8, 9, 1), "refused 4"),
         figure("user 0, count 16", chip(16, 0, 1), "refused 4"),
-        figure(
-            "user 16, count 16, is answered",
-            one_chip(rows, 0, 1, 16, 16, 1).is_ok(),
-            true,
-        ),
+        figure("user 16, count 16, is answered", one_chip(rows, 0, 1, 16, 16, 1).is_ok(), true),
     ]
 }
 
@@ -165,21 +121,13 @@ fn slot(
     tfci_bits: u32,
     tpc_bits: u32,
 ) -> Timeslot {
-    timeslot(&Question {
-        burst_type,
-        direction,
-        factor,
-        tfci_bits,
-        tpc_bits,
-    })
-    .expect("these questions are answered")
+    timeslot(&Question { burst_type, direction, factor, tfci_bits, tpc_bits })
+        .expect("these questions are answered")
 }
 
 /// The first and the last chip of a part.
 fn first_and_last(slot: &Timeslot, part: Part) -> String {
-    let chips: Vec<usize> = (0..CHIPS)
-        .filter(|chip| slot.chips[*chip].part == part)
-        .collect();
+    let chips: Vec<usize> = (0..CHIPS).filter(|chip| slot.chips[*chip].part == part).collect();
     format!("{} to {}", chips[0], chips[chips.len() - 1])
 }
 
@@ -188,36 +136,20 @@ fn timeslot_figures() -> Vec<Figure> {
     let uplink_1 = slot(1, Direction::Up, 8, 16, 2);
     let downlink_2 = slot(2, Direction::Down, 16, 4, 0);
     let uplink_3 = slot(3, Direction::Up, 16, 32, 2);
-    let starts: Vec<String> = uplink_1
-        .parts
-        .iter()
-        .map(|part| part.start.to_string())
-        .collect();
+    let starts: Vec<String> = uplink_1.parts.iter().map(|part| part.start.to_string()).collect();
     vec![
         figure("uplink type 1, chips", uplink_1.chips.len(), CHIPS),
         figure("downlink type 2, chips", downlink_2.chips.len(), CHIPS),
         figure("uplink type 3, chips", uplink_3.chips.len(), CHIPS),
-        figure(
-            "uplink type 1, starts",
-            starts.join(", "),
-            "0, 912, 976, 1488, 1504, 1568, 2464",
-        ),
+        figure("uplink type 1, starts", starts.join(", "), "0, 912, 976, 1488, 1504, 1568, 2464"),
         figure("uplink type 1, data bits", bits(&uplink_1), "228 and 224"),
-        figure(
-            "downlink type 2, data bits",
-            bits(&downlink_2),
-            "136 and 136",
-        ),
+        figure("downlink type 2, data bits", bits(&downlink_2), "136 and 136"),
         figure(
             "downlink type 2, second TFCI half",
             first_and_last(&downlink_2, Part::Tfci2),
             "1360 to 1375",
         ),
-        figure(
-            "uplink type 3, data 2",
-            first_and_last(&uplink_3, Part::Data2),
-            "1632 to 2367",
-        ),
+        figure("uplink type 3, data 2", first_and_last(&uplink_3, Part::Data2), "1632 to 2367"),
         figure("uplink type 3, bits of data 2", uplink_3.data_bits[1], 92),
     ]
 }
@@ -237,37 +169,17 @@ fn paging_figures() -> Vec<Figure> {
     };
     let owned = |burst_type, length, bit| in_words(owner(burst_type, length, bit), owner_words);
     vec![
-        figure(
-            "type 1, L 4, F 2, PI 37",
-            place(1, 4, 2, 37),
-            "frame 1 q 7 bits 28..31 148..151",
-        ),
+        figure("type 1, L 4, F 2, PI 37", place(1, 4, 2, 37), "frame 1 q 7 bits 28..31 148..151"),
         figure("type 1, L 4, F 2, PI 60", place(1, 4, 2, 60), "refused 10"),
         figure(
             "type 2, L 2, F 1, PI 67",
             place(2, 2, 1, 67),
             "frame 0 q 67 bits 134..135 270..271",
         ),
-        figure(
-            "type 1, L 4, bit 119 in time order",
-            owned(1, 4, 119),
-            "q 29",
-        ),
-        figure(
-            "type 1, L 4, bit 120 in time order",
-            owned(1, 4, 120),
-            "reserved",
-        ),
-        figure(
-            "type 1, L 4, bit 123 in time order",
-            owned(1, 4, 123),
-            "reserved",
-        ),
-        figure(
-            "type 1, L 4, bit 124 in time order",
-            owned(1, 4, 124),
-            "q 0",
-        ),
+        figure("type 1, L 4, bit 119 in time order", owned(1, 4, 119), "q 29"),
+        figure("type 1, L 4, bit 120 in time order", owned(1, 4, 120), "reserved"),
+        figure("type 1, L 4, bit 123 in time order", owned(1, 4, 123), "reserved"),
+        figure("type 1, L 4, bit 124 in time order", owned(1, 4, 124), "q 0"),
     ]
 }
 
@@ -277,13 +189,21 @@ fn reply(answer: Answer<()>) -> String {
 }
 
 /// Cell 0, counts 0, case 1, k 0.
-const CELL_0: Settings = Settings {
-    cell: 0,
-    case: 1,
-    k: 0,
-    long_count: 0,
-    short_count: 0,
-};
+const CELL_0: Settings = Settings { cell: 0, case: 1, k: 0, long_count: 0, short_count: 0 };
+
+/// A booking of type 1 and factor 16 without control bits.
+fn plain(timeslot: u32, direction: Direction, index: u32, user: u32) -> Record {
+    Record {
+        timeslot,
+        direction,
+        burst_type: 1,
+        factor: 16,
+        index,
+        user,
+        tfci_bits: 0,
+        tpc_bits: 0,
+    }
+}
 
 /// Seat 3 of the figures, after its two bookings.
 fn seat_3() -> Answer<Book> {
@@ -312,13 +232,7 @@ fn seat_3_figures() -> Vec<Figure> {
     let mut too_short = [NO_BOOKING; MOST_OF_A_SEAT - 1];
     let refused = book.list_into(3, &mut too_short);
     let settings = in_words(book.settings(3), |kept| {
-        let Settings {
-            cell,
-            case,
-            k,
-            long_count,
-            short_count,
-        } = kept;
+        let Settings { cell, case, k, long_count, short_count } = kept;
         format!("{cell}, {case}, {k}, {long_count}, {short_count}")
     });
     vec![
@@ -328,16 +242,8 @@ fn seat_3_figures() -> Vec<Figure> {
             "(0, down, 1, 16, 1, 1, 0, 0), (2, down, 1, 16, 3, 4, 0, 0); count 2",
         ),
         figure("seat 3, records left untouched", untouched, 43),
-        figure(
-            "seat 3, a list in 39 records",
-            reply(refused.map(|_| ())),
-            "refused 11",
-        ),
-        figure(
-            "seat 3, cell, case, k and counts",
-            settings,
-            "0, 1, 0, 16, 6",
-        ),
+        figure("seat 3, a list in 39 records", reply(refused.map(|_| ())), "refused 11"),
+        figure("seat 3, cell, case, k and counts", settings, "0, 1, 0, 16, 6"),
     ]
 }
 
@@ -345,19 +251,13 @@ fn seat_3_figures() -> Vec<Figure> {
 fn fill(book: &mut Book, seat: u32, most: u32) -> (usize, String) {
     let mut last = Ok(());
     for place in 0..most {
-        last = book.book(
-            seat,
-            plain(1 + place % 14, Direction::Up, 1 + place / 14, 1),
-        );
+        last = book.book(seat, plain(1 + place % 14, Direction::Up, 1 + place / 14, 1));
     }
-    (
-        book.list(seat).map_or(0, |listed| listed.len()),
-        reply(last),
-    )
+    (book.list(seat).map_or(0, |listed| listed.len()), reply(last))
 }
 
-/// "Three seats hold 40, 40 and 30, nobody else any: those at 40 get 19, the third gets 20, and an empty seat still books
-/// 10."
+/// "Three seats hold 40, 40 and 30, nobody else any: those at 40 get 19, the third gets 20, and an empty seat still
+/// books 10."
 fn room_figures() -> Vec<Figure> {
     let mut book = Book::empty();
     for seat in [0, 1, 2, 3] {
@@ -370,11 +270,7 @@ fn room_figures() -> Vec<Figure> {
     let freed = book.cancel(1, 1, 16, 1);
     let (held_then, twelfth) = fill(&mut book, 3, 12);
     vec![
-        figure(
-            "three seats hold",
-            holdings.join(", "),
-            "40 ok, 40 ok, 30 ok",
-        ),
+        figure("three seats hold", holdings.join(", "), "40 ok, 40 ok, 30 ok"),
         figure(
             "and their next booking gets",
             next.join(", "),
@@ -408,9 +304,7 @@ fn damaged_book_figures() -> Vec<Figure> {
     ];
     vec![figure(
         "calls on a damaged book",
-        answers
-            .map(|answer| answer.map_or_else(|number| number, |()| 0).to_string())
-            .join(", "),
+        answers.map(|answer| answer.map_or_else(|number| number, |()| 0).to_string()).join(", "),
         "9, 12, 5, 12, 6, 12, 12, 11, 12",
     )]
 }

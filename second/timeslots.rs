@@ -1,8 +1,6 @@
 //! Document 01, "Parts of a timeslot (clause 5.2.2)".
 
-use crate::digest::digest;
-use crate::refusals::{in_words, refuse_if, refuse_unknown_type, Answer};
-use std::io::{self, Write};
+use crate::refusals::{refuse_if, refuse_unknown_type, Answer};
 
 /// Chips of a timeslot.
 pub const CHIPS: usize = 2560;
@@ -11,11 +9,7 @@ pub const CHIPS: usize = 2560;
 pub const LAST_TIMESLOT: u32 = 14;
 
 /// The field lengths, burst type by field: data 1, midamble, data 2, guard.
-const FIELDS: [[usize; 4]; 3] = [
-    [976, 512, 976, 96],
-    [1104, 256, 1104, 96],
-    [976, 512, 880, 192],
-];
+const FIELDS: [[usize; 4]; 3] = [[976, 512, 976, 96], [1104, 256, 1104, 96], [976, 512, 880, 192]];
 
 /// Up or down, there is no third.
 #[derive(Clone, Copy, PartialEq)]
@@ -47,20 +41,7 @@ pub enum Part {
 }
 
 impl Part {
-    /// docs/COMPARISON.md, `timeslots` 1: the part's number in time order.
-    fn number(self) -> u64 {
-        match self {
-            Part::Data1 => 1,
-            Part::Tfci1 => 2,
-            Part::Midamble => 3,
-            Part::Tpc => 4,
-            Part::Tfci2 => 5,
-            Part::Data2 => 6,
-            Part::Guard => 7,
-        }
-    }
-
-    /// docs/COMPARISON.md, `timeslots` 2: the part's word.
+    /// The part's word in docs/LESSONS.md.
     fn word(self) -> &'static str {
         match self {
             Part::Data1 => "data1",
@@ -82,17 +63,6 @@ pub struct Question {
     pub factor: u32,
     pub tfci_bits: u32,
     pub tpc_bits: u32,
-}
-
-impl Question {
-    /// As it stands in the lines of docs/COMPARISON.md.
-    fn words(&self) -> String {
-        let direction = self.direction.word();
-        format!(
-            "{} {direction} {} {} {}",
-            self.burst_type, self.factor, self.tfci_bits, self.tpc_bits
-        )
-    }
 }
 
 /// What lies at a chip: the part, with the offset in it (midamble, guard) or the symbol number in it (data, control).
@@ -119,15 +89,9 @@ pub struct Timeslot {
 impl Timeslot {
     /// Puts the next part behind what is there. Its label counts up every `chips_per_count` chips.
     fn append(&mut self, part: Part, length: usize, chips_per_count: usize) {
-        self.parts.push(Stretch {
-            start: self.chips.len(),
-            length,
-        });
+        self.parts.push(Stretch { start: self.chips.len(), length });
         for offset in 0..length {
-            self.chips.push(Label {
-                part,
-                number: offset / chips_per_count,
-            });
+            self.chips.push(Label { part, number: offset / chips_per_count });
         }
     }
 }
@@ -151,13 +115,7 @@ pub fn refuse_bad_control(direction: Direction, tfci_bits: u32, tpc_bits: u32) -
 
 /// Refusals 2, 6 (factor and direction only), 7, 8.
 fn refusals(question: &Question) -> Answer<()> {
-    let Question {
-        burst_type,
-        direction,
-        factor,
-        tfci_bits,
-        tpc_bits,
-    } = *question;
+    let Question { burst_type, direction, factor, tfci_bits, tpc_bits } = *question;
     let down = direction == Direction::Down;
     refuse_unknown_type(burst_type)?;
     refuse_bad_factor(factor)?;
@@ -195,15 +153,8 @@ pub fn timeslot(question: &Question) -> Answer<Timeslot> {
     let data_1 = field_1 - half_tfci;
     let data_2 = field_2 - tpc - half_tfci;
 
-    let data_bits = [
-        bits_of_chips(data_1, data_symbol),
-        bits_of_chips(data_2, data_symbol),
-    ];
-    let mut slot = Timeslot {
-        chips: Vec::new(),
-        parts: Vec::new(),
-        data_bits,
-    };
+    let data_bits = [bits_of_chips(data_1, data_symbol), bits_of_chips(data_2, data_symbol)];
+    let mut slot = Timeslot { chips: Vec::new(), parts: Vec::new(), data_bits };
     slot.append(Part::Data1, data_1, data_symbol);
     slot.append(Part::Tfci1, half_tfci, control_symbol);
     slot.append(Part::Midamble, midamble, 1);
@@ -221,35 +172,6 @@ pub fn at(question: &Question, chip: u32) -> Answer<Label> {
     Ok(slot.chips[chip as usize])
 }
 
-/// docs/COMPARISON.md, `timeslots`.
-pub fn print(out: &mut dyn Write) -> io::Result<()> {
-    print_parts(out)?;
-    print_chips(out)
-}
-
-/// The questions of `timeslots` 1.
-fn parts_questions() -> Vec<Question> {
-    let mut questions = Vec::new();
-    for burst_type in 0..=4 {
-        for direction in [Direction::Up, Direction::Down] {
-            for factor in [0, 1, 2, 3, 4, 8, 16, 32] {
-                for tfci_bits in [0, 2, 4, 8, 16, 32, 64] {
-                    for tpc_bits in 0..=2 {
-                        questions.push(Question {
-                            burst_type,
-                            direction,
-                            factor,
-                            tfci_bits,
-                            tpc_bits,
-                        });
-                    }
-                }
-            }
-        }
-    }
-    questions
-}
-
 /// Seven START+LENGTH and `bits B1 B2`.
 pub fn parts_words(slot: &Timeslot) -> String {
     let mut words = String::new();
@@ -261,92 +183,7 @@ pub fn parts_words(slot: &Timeslot) -> String {
     words
 }
 
-/// `timeslots` 1: the same with `chips D`.
-fn parts_and_chips_words(slot: &Timeslot) -> String {
-    let digest = digest(
-        slot.chips
-            .iter()
-            .flat_map(|label| [label.part.number(), label.number as u64]),
-    );
-    format!("{} chips {digest}", parts_words(slot))
-}
-
-/// `timeslots` 1.
-fn print_parts(out: &mut dyn Write) -> io::Result<()> {
-    for question in parts_questions() {
-        let answer = in_words(timeslot(&question), |slot| parts_and_chips_words(&slot));
-        writeln!(out, "parts {}: {answer}", question.words())?;
-    }
-    Ok(())
-}
-
-/// The questions of `timeslots` 2, each with its chips.
-fn chip_questions() -> Vec<(Question, Vec<u32>)> {
-    let ask = |burst_type, direction, factor, tfci_bits, tpc_bits, chips: &[u32]| {
-        (
-            Question {
-                burst_type,
-                direction,
-                factor,
-                tfci_bits,
-                tpc_bits,
-            },
-            chips.to_vec(),
-        )
-    };
-    let uplink_type_1 = [
-        0,
-        7,
-        8,
-        911,
-        912,
-        927,
-        928,
-        975,
-        976,
-        1487,
-        1488,
-        1503,
-        1504,
-        1567,
-        1568,
-        1575,
-        1576,
-        2463,
-        2464,
-        2559,
-        2560,
-        u32::MAX,
-    ];
-    let downlink_type_2 = [1087, 1088, 1103, 1104, 1359, 1360, 1375, 1376, 2463, 2464];
-    let uplink_type_3 = [
-        847, 848, 1487, 1488, 1503, 1504, 1631, 1632, 2367, 2368, 2559,
-    ];
-    vec![
-        ask(1, Direction::Up, 8, 16, 2, &uplink_type_1),
-        ask(2, Direction::Down, 16, 4, 0, &downlink_type_2),
-        ask(3, Direction::Up, 16, 32, 2, &uplink_type_3),
-        ask(0, Direction::Up, 3, 5, 1, &[2560]),
-        ask(3, Direction::Down, 3, 5, 1, &[2560]),
-        ask(3, Direction::Down, 16, 5, 1, &[2560]),
-        ask(1, Direction::Down, 16, 5, 1, &[2560]),
-        ask(1, Direction::Down, 16, 4, 2, &[2560]),
-        ask(1, Direction::Down, 16, 4, 0, &[2560]),
-    ]
-}
-
 /// The part's word and the offset or symbol number.
 pub fn label_words(label: Label) -> String {
     format!("{} {}", label.part.word(), label.number)
-}
-
-/// `timeslots` 2.
-fn print_chips(out: &mut dyn Write) -> io::Result<()> {
-    for (question, chips) in chip_questions() {
-        for chip in chips {
-            let answer = in_words(at(&question, chip), label_words);
-            writeln!(out, "at {} {chip}: {answer}", question.words())?;
-        }
-    }
-    Ok(())
 }

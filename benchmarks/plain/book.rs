@@ -1,6 +1,7 @@
-//! The class book: the same layout and the same tests of the whole book as the library's. A book goes in and comes back by value; inside, references.
+//! The class book: the same layout and the same tests of the whole book as the library's. A book goes in and comes
+//! back by value; inside, references.
 
-use crate::answers::{MqAnswer, MqBook, MqBookAnswer, BOOK_BYTES};
+use library::{MqAnswer, MqBook, MqBookAnswer, BOOK_BYTES};
 use std::mem::{align_of, size_of};
 
 #[derive(Clone, Copy, PartialEq, Eq)]
@@ -47,16 +48,8 @@ pub struct Seat {
     pub row: [Booking; 40],
 }
 
-const CLOSED: Seat = Seat {
-    live: false,
-    cell: 0,
-    sync: 0,
-    k: 0,
-    long: 0,
-    short: 0,
-    count: 0,
-    row: [BLANK; 40],
-};
+const CLOSED: Seat =
+    Seat { live: false, cell: 0, sync: 0, k: 0, long: 0, short: 0, count: 0, row: [BLANK; 40] };
 
 #[derive(Clone, Copy)]
 #[repr(C)]
@@ -273,10 +266,7 @@ impl Seat {
                 .bookings()
                 .iter()
                 .all(|x| x.well_formed() && !self.above_count(x) && !self.off_beacon(x))
-            && self
-                .bookings()
-                .windows(2)
-                .all(|w| w[0].key() < w[1].key() && !w[0].clashes(&w[1]))
+            && self.bookings().windows(2).all(|w| w[0].key() < w[1].key() && !w[0].clashes(&w[1]))
             && self.row[self.held()..].iter().all(|x| *x == BLANK)
     }
 
@@ -360,7 +350,9 @@ impl Book {
             return refusal;
         }
         let s = &mut self.seats[seat as usize];
-        let named = |y: &Booking| y.timeslot as u32 == timeslot && y.factor as u32 == factor && y.index as u32 == index;
+        let named = |y: &Booking| {
+            y.timeslot as u32 == timeslot && y.factor as u32 == factor && y.index as u32 == index
+        };
         match s.bookings().iter().position(named) {
             Some(at) => {
                 s.remove(at);
@@ -389,7 +381,15 @@ pub fn book_code(mut book: Book, seat: u32, x: Request) -> BookAnswer {
     BookAnswer { refusal, book }
 }
 
-pub fn open_seat(mut book: Book, seat: u32, cell: u32, sync: u32, k: u32, long: u32, short: u32) -> BookAnswer {
+pub fn open_seat(
+    mut book: Book,
+    seat: u32,
+    cell: u32,
+    sync: u32,
+    k: u32,
+    long: u32,
+    short: u32,
+) -> BookAnswer {
     let refusal = match opened(cell, sync, k, long, short) {
         Ok(settings) => book.open(seat, settings),
         Err(refusal) => refusal,
@@ -397,16 +397,19 @@ pub fn open_seat(mut book: Book, seat: u32, cell: u32, sync: u32, k: u32, long: 
     BookAnswer { refusal, book }
 }
 
-// The calls on the caller's 5,232 bytes, by value. A caller's byte may be any: where one is neither of the two that `live` or `direction` can be, the book is refused as broken.
+// The calls on the caller's 5,232 bytes, by value. A caller's byte may be any: where one is neither of the two that
+// `live` or `direction` can be, the book is refused as broken.
 
 impl Book {
     fn of(bytes: &mut MqBook) -> Option<&mut Book> {
         let seats = bytes.0.chunks_exact(size_of::<Seat>());
-        let fine = |seat: &[u8]| seat[0] < 2 && seat[7..].chunks_exact(8).all(|booking| booking[1] < 2);
+        let fine =
+            |seat: &[u8]| seat[0] < 2 && seat[7..].chunks_exact(8).all(|booking| booking[1] < 2);
         if !seats.into_iter().all(fine) {
             return None;
         }
-        // SAFETY: both are BOOK_BYTES long and of alignment 1 (asserted below), and the only bytes of a Book that may not be any were just tested.
+        // SAFETY: both are BOOK_BYTES long and of alignment 1 (asserted below), and the only bytes of a Book that may
+        // not be any were just tested.
         Some(unsafe { &mut *(bytes as *mut MqBook).cast::<Book>() })
     }
 }
@@ -424,7 +427,15 @@ pub fn empty() -> MqBook {
 }
 
 #[inline(never)]
-pub fn open(book: MqBook, seat: u32, cell: u32, sync: u32, k: u32, long: u32, short: u32) -> MqBookAnswer {
+pub fn open(
+    book: MqBook,
+    seat: u32,
+    cell: u32,
+    sync: u32,
+    k: u32,
+    long: u32,
+    short: u32,
+) -> MqBookAnswer {
     match opened(cell, sync, k, long, short) {
         Ok(settings) => changed(book, |b| b.open(seat, settings)),
         Err(refusal) => MqBookAnswer { refusal, book },
@@ -482,7 +493,16 @@ pub fn list(mut book: MqBook, seat: u32, out: &mut [u8]) -> MqAnswer {
     }
     let bookings = b.seats[seat as usize].bookings();
     for (record, x) in out.chunks_exact_mut(8).zip(bookings) {
-        record.copy_from_slice(&[x.timeslot, x.direction as u8, x.burst, x.factor, x.index, x.user, x.tfci, x.tpc]);
+        record.copy_from_slice(&[
+            x.timeslot,
+            x.direction as u8,
+            x.burst,
+            x.factor,
+            x.index,
+            x.user,
+            x.tfci,
+            x.tpc,
+        ]);
     }
     MqAnswer::giving(bookings.len() as u32)
 }

@@ -1,7 +1,7 @@
 //! Midambles: the same tests and the same arithmetic for each chip as the library, over tables that lie in memory.
 
-use crate::answers::MqAnswer;
 use crate::rows;
+use library::MqAnswer;
 
 static LONG: [u8; 7296] = rows::table(b"long ", 57);
 static SHORT: [u8; 3072] = rows::table(b"short ", 24);
@@ -15,19 +15,9 @@ struct Code {
 
 fn code_of(burst: u32) -> Code {
     if burst == 2 {
-        return Code {
-            base: 3,
-            step: 64,
-            half: 32,
-            length: 256,
-        };
+        return Code { base: 3, step: 64, half: 32, length: 256 };
     }
-    Code {
-        base: 8,
-        step: 57,
-        half: 28,
-        length: 512,
-    }
+    Code { base: 8, step: 57, half: 28, length: 512 }
 }
 
 fn user_refusal(cell: u32, burst: u32, count: u32, user: u32) -> u32 {

@@ -1,4 +1,5 @@
-//! The calls in plain Rust, by chapter: what a Rust programmer would write who knows document 01 and checks the same refusals. No call here is inlined into the timing loops: the library's cannot be either.
+//! The calls in plain Rust, by chapter: what a Rust programmer would write who knows document 01 and checks the same
+//! refusals. No call here is inlined into the timing loops: the library's cannot be either.
 
 pub mod book;
 pub mod midambles;

@@ -1,6 +1,6 @@
 //! Paging bits.
 
-use crate::answers::{MqAnswer, MqIndicator, MqOwner};
+use library::{MqAnswer, MqIndicator, MqOwner};
 
 /// What a burst of the PICH holds.
 struct Pich {

@@ -1,6 +1,6 @@
 //! The words of the refusals.
 
-use crate::answers::MqAnswer;
+use library::MqAnswer;
 
 const WORDS: [&str; 22] = [
     "",

@@ -1,6 +1,6 @@
 //! Parts of a timeslot, what lies at a chip, and beacon timeslots.
 
-use crate::answers::{MqBeacons, MqParts, MqPlace};
+use library::{MqBeacons, MqParts, MqPlace};
 
 /// Burst type by field: data 1, midamble, data 2, guard.
 const FIELDS: [[u32; 4]; 3] = [[976, 512, 976, 96], [1104, 256, 1104, 96], [976, 512, 880, 192]];
@@ -11,7 +11,10 @@ fn refusal(burst: u32, direction: u32, factor: u32, tfci: u32, tpc: u32) -> u32 
     if !(1..=3).contains(&burst) {
         return 2;
     }
-    if direction > DOWN || !matches!(factor, 1 | 2 | 4 | 8 | 16) || (down && !matches!(factor, 1 | 16)) {
+    if direction > DOWN
+        || !matches!(factor, 1 | 2 | 4 | 8 | 16)
+        || (down && !matches!(factor, 1 | 16))
+    {
         return 6;
     }
     if down && burst == 3 {

@@ -1,0 +1,21 @@
+//! Every question of docs/COMPARISON.md, over C.
+
+mod book;
+mod midambles;
+mod paging;
+mod timeslots;
+
+use crate::beside::{Beside, Tally};
+use second::rows::Rows;
+
+const LARGEST: u32 = u32::MAX;
+
+/// What was compared.
+pub fn run(rows: &Rows) -> Tally {
+    let both = &mut Beside::new(rows);
+    midambles::run(both);
+    timeslots::run(both);
+    paging::run(both);
+    book::run(both);
+    both.tally.clone()
+}

@@ -1,0 +1,22 @@
+"""The words of the refusals, from their one home: the list `conditions` of crates/refusal_words/specs/Words.antt. Used by tools/words and tools/refusals."""
+import re
+import sys
+from pathlib import Path
+
+ROOT = Path(__file__).resolve().parent.parent
+HOME = ROOT / 'crates' / 'refusal_words' / 'specs' / 'Words.antt'
+PAGE = ROOT / 'docs' / 'REFUSALS.md'
+ROW = re.compile(r'^\| (\d+) \| (.+?) \| .+? \| (.+?) \| (.+?) \|$', re.M)
+
+
+def conditions():
+    """Number -> words, from 1 on."""
+    found = re.search(r'^conditions =\n((?:    "[^"\n]+" ∷\n)+    "[^"\n]+" ∷ \[\]\n)', HOME.read_text(encoding='utf-8'), re.M)
+    if not found:
+        sys.exit(f'no list `conditions` in {HOME.relative_to(ROOT)}')
+    return dict(enumerate(re.findall(r'"([^"]+)"', found.group(1)), start=1))
+
+
+def examples():
+    """The rows of docs/REFUSALS.md: number, words, an example that gets it, one that does not."""
+    return [(int(number), *rest) for number, *rest in ROW.findall(PAGE.read_text(encoding='utf-8'))]

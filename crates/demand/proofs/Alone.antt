@@ -23,7 +23,7 @@ use Rattle.demand.proofs.Own.{table, number-own, told, reply-own, made,
 use Rattle.demand.proofs.Books.{Good, empty-good, next-good, next-apart}
 use Rattle.demand.proofs.Refused.{room-only-20}
 
-not-bad : (b : Book) → Good b → badBook b ≡ false
+pub not-bad : (b : Book) → Good b → badBook b ≡ false
 unfolding badBook
 not-bad b g = ap not (g .ok)
 

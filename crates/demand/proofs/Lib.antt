@@ -5,3 +5,4 @@ pub mod Refused
 pub mod Alone
 pub mod Demand3
 pub mod NotTrivial
+pub mod Promises

@@ -8,6 +8,7 @@ use lib.Dec.{eqb}
 use lib.ListN.{length}
 use Rattle.classbook.specs.declared.Book.{Book}
 use Rattle.classbook.specs.Book.{emptyBook, seatOf, planOf, common}
+use Rattle.classbook.specs.Calls.{listAnswer}
 use Rattle.demand.specs.Lesson.{Call, Turn, reply, numberOf, runThrough, Line, log, turns}
 
 -- how many bookings a learner holds: as many as the seat's plan lists
@@ -45,10 +46,11 @@ abbrev pub left : ℕ → List Turn → List Line
 left i ts = kept i (log emptyBook ts)
 
 -- "the rest of that learner's calls, made alone on an empty book, get the same answers": a lesson of these turns alone has what is left for its log;
--- "and leave the same plan"
+-- "and leave the same plan"; and the list by value, which may be asked for after any turn and leaves the book as it is, is the same too
 pub record AsIfAlone (i : ℕ) (ts : List Turn) : Type 0 where
   pub same-answers : log emptyBook (turns (left i ts)) ≡ left i ts
   pub same-plan : planOf (seatOf (bookAfter (turns (left i ts))) i) ≡ planOf (seatOf (bookAfter ts) i)
+  pub same-list : listAnswer (bookAfter (turns (left i ts))) i ≡ listAnswer (bookAfter ts) i
 
 -- Demand 3, of one lesson
 pub record Demand3 (ts : List Turn) : Type 0 where

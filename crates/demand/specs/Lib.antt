@@ -1,2 +1,3 @@
 pub mod Lesson
+pub mod Course
 pub mod Demand

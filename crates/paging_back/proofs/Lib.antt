@@ -3,6 +3,8 @@ pub mod Heard
 pub mod Rows
 pub mod Tally
 pub mod Owners
+pub mod Given
+pub mod Answers
 pub mod Written
 pub mod Readings
 pub mod Flips

@@ -8,3 +8,7 @@ pub mod Answers
 pub mod Written
 pub mod Readings
 pub mod Flips
+pub mod Torn
+pub mod Read
+pub mod Pages
+pub mod Unread

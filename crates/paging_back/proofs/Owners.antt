@@ -95,10 +95,10 @@ module _ (L H N : ℕ) (low : 1 ≤ L) (whole : N * L ≡ H) where
           j,
           l,
           ⊎-elim
-          (λ (k : b ≡ L * q + j). inl (omega (arith, time-first H b (omega arith))))
-          (λ (k : b ≡ H + L * q + j).
-          let m : H + (L * q + j) ≡ b = omega arith in inr (omega (arith, time-second H (L * q + j), ap (inTime H) m)))
-          (o .1 .1 .2),
+              (λ (k : b ≡ L * q + j). inl (omega (arith, time-first H b (omega arith))))
+              (λ (k : b ≡ H + L * q + j).
+              let m : H + (L * q + j) ≡ b = omega arith in inr (omega (arith, time-second H (L * q + j), ap (inTime H) m)))
+              (o .1 .1 .2),
         ),
       )
 

@@ -8,7 +8,7 @@ use Prim.Native.Nat.{ℕ, _+_, _<_}
 use lib.Dec.{eqb}
 use lib.ListN.{getD}
 use Rattle.refusals.specs.Refusals.{answered}
-use Rattle.paging_bits.specs.Bits.{asBit, inTime}
+use Rattle.paging_bits.specs.Bits.{bitsIn, perFrame, asBit, inTime}
 use Rattle.paging.specs.Paging.{halfOf, Bits, _bitsFrom_, Place, place, Owner, reserved, owned}
 use Rattle.paging.specs.Calls.{ownerAnswer}
 
@@ -34,6 +34,13 @@ unfoldable pub ownerIs : ℕ → Owner → Bool
 ownerIs q reserved = false
 ownerIs q (owned r) = eqb q r
 
+-- N, how many a timeslot of this burst type holds, and the bits of its burst in time order: "244 or 276"
+abbrev pub numberOf : ℕ → ℕ → ℕ
+numberOf burst L = perFrame L (halfOf burst)
+
+abbrev pub bitsOf : ℕ → ℕ
+bitsOf burst = bitsIn (halfOf burst)
+
 -- bit p, named by its place in time order, is one of those that a place names
 unfoldable pub Lies : ℕ → ℕ → Place → Type 0
 Lies burst p x = (b : ℕ) × (Named b x) × (inTime (halfOf burst) b ≡ p)
@@ -52,4 +59,5 @@ AllAre burst L q bits v = (p : ℕ) → Owns burst L q p → bitAt bits p ≡ v
 
 -- "torn where its bits differ": two bits of q are not the same
 unfoldable pub Differ : ℕ → ℕ → ℕ → List ℕ → Type 0
-Differ burst L q bits = (p : ℕ) × (p' : ℕ) × (Owns burst L q p) × (Owns burst L q p') × (bitAt bits p ≡ bitAt bits p' → ⊥)
+Differ burst L q bits =
+    (p : ℕ) × (p' : ℕ) × (Owns burst L q p) × (Owns burst L q p') × (bitAt bits p ≡ bitAt bits p' → ⊥)

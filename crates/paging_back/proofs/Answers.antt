@@ -1,6 +1,6 @@
--- From question to place and back, over the answers of `indicator` and `owner`: the bits of the place
--- that `indicator` answers are those that `owner` answers with its q, and frame and q give the number
--- again. Assumes nothing.
+-- From question to place and back, over the answers of `indicator` and `owner`: the bits of the
+-- place that `indicator` answers are those that `owner` answers with its q, and frame and q give
+-- the number again. Assumes nothing.
 use mathlib.Core.Path.{_≡_, sym, ap, _∙_, subst}
 use mathlib.Core.Logic.{_↔_, ⊎-elim}
 use Prim.Native.Nat.{ℕ, _+_, _-_, _*_, _/_, _%_, _<_, _≤_}
@@ -69,7 +69,7 @@ module _ (burst L F PI frame q : ℕ) (first second : Bits)
       back : Lies burst p (place frame q first second) → Owns burst L q p
       back l =
           let H = halfOf burst in
-          let m : Lies burst p (placeOf L H PI) = subst (λ (x : Place). Lies burst p x) (sym told) l in
+          let m = subst (λ (x : Place). Lies burst p x) (sym told) l in
           let within = placed-within L H fit PI (m .0) (m .1) in
           let mine = placed-owned L H fit PI (m .0) (m .1) ∙ ap owned same in
           subst (λ (p : ℕ). Owns burst L q p) (m .2)
@@ -90,11 +90,13 @@ module _ (burst L F PI frame q : ℕ) (first second : Bits)
       let t = told in
       let at : PI / N ≡ frame = cc in
       let is : PI % N ≡ q = cc in
-      let below : PI < F * N = omega (arith, mul-comm F N, indicator-given burst L F PI _ given .1) in
+      let block : PI < N * F = indicator-given burst L F PI _ given .1 in
+      let below : PI < F * N = omega (arith, mul-comm F N) in
       let frames : PI / N < F = div-lt-iff-lt-mul (fit .some) .1 below in (
         omega arith,
         omega (arith, mod-lt PI (fit .some)),
-        sym (div-add-mod' PI N) ∙ ap (λ (x : ℕ). x * N + PI % N) at ∙ ap (λ (x : ℕ). frame * N + x) is,
+        sym (div-add-mod' PI N) ∙ ap (λ (x : ℕ). x * N + PI % N) at
+            ∙ ap (λ (x : ℕ). frame * N + x) is,
       )
 
 -- so frame and q have one number
@@ -114,7 +116,8 @@ module _ (burst L q p : ℕ) (owns : Owns burst L q p) where
       owned-has L (halfOf burst) (numberOf burst L) (f .low) (f .whole) p q (o .1) (o .2) .0
 
   -- and back: any number that is q in its frame is answered, with a place in which the bit lies
-  pub owner-placed : (F PI : ℕ) → 1 ≤ F → F ≤ 4 → PI < numberOf burst L * F → PI % numberOf burst L ≡ q
+  pub owner-placed : (F PI : ℕ) → 1 ≤ F → F ≤ 4 → PI < numberOf burst L * F
+      → PI % numberOf burst L ≡ q
       → (x : Place) × (indicatorAnswer burst L F PI ≡ answered x) × (qOf x ≡ q) × (Lies burst p x)
   unfolding Lies qOf placeOf
   owner-placed F PI low high below is =

@@ -26,7 +26,8 @@ ones-all bits a (suc n) v h = omega (arith, ones-all bits a n v (λ j l. h j (om
 
 -- the bits of a run are all v, or there is one that is not
 pub alike-or-not : (bits : List ℕ) (a n v : ℕ)
-    → ((j : ℕ) → j < n → asBit (getD bits (a + j) 0) ≡ v) ⊎ ((j : ℕ) × (j < n) × (asBit (getD bits (a + j) 0) ≡ v → ⊥))
+    → ((j : ℕ) → j < n → asBit (getD bits (a + j) 0) ≡ v)
+    ⊎ ((j : ℕ) × (j < n) × (asBit (getD bits (a + j) 0) ≡ v → ⊥))
 alike-or-not bits a zero v = inl (λ j l. absurd (omega arith))
 alike-or-not bits a (suc n) v =
     ⊎-elim
@@ -35,10 +36,11 @@ alike-or-not bits a (suc n) v =
     (λ (e : asBit (getD bits (a + n) 0) ≡ v).
     inl (λ j l.
     let k : j ≤ n = omega arith in
-    ⊎-elim (λ (m : j ≡ n). ap (λ (i : ℕ). asBit (getD bits (a + i) 0)) m ∙ e) (all j) (eq-or-lt-of-le k)))
+    ⊎-elim (λ (m : j ≡ n). ap (λ (i : ℕ). asBit (getD bits (a + i) 0)) m ∙ e) (all j)
+    (eq-or-lt-of-le k)))
     (λ (d : asBit (getD bits (a + n) 0) ≡ v → ⊥). inr (n, omega arith, d))
     (equal-or-not (asBit (getD bits (a + n) 0)) v))
-    (λ (one : (j : ℕ) × (j < n) × (asBit (getD bits (a + j) 0) ≡ v → ⊥)). inr (one .0, omega (arith, one .1), one .2))
+    (λ (j, l, d). inr (j, omega arith, d))
     (alike-or-not bits a n v)
 
 module _ (bits : List ℕ) (p w : ℕ) where
@@ -67,7 +69,8 @@ module _ (bits : List ℕ) (p w : ℕ) where
 
 -- a bit of a run that is 1 counts among its ones, and one that is 0 is missing there
 pub ones-with : (bits : List ℕ) (a n i : ℕ) → i < n → a + i < length bits
-    → (asBit (getD bits (a + i) 0) ≤ onesFrom bits a n) × (onesFrom bits a n + 1 ≤ n + asBit (getD bits (a + i) 0))
+    → (asBit (getD bits (a + i) 0) ≤ onesFrom bits a n)
+    × (onesFrom bits a n + 1 ≤ n + asBit (getD bits (a + i) 0))
 unfolding asBit
 ones-with bits a n i l h =
     let without = ones-changed bits (a + i) 0 a n i l refl h in

@@ -74,7 +74,8 @@ module _ (L H N : ℕ) (low : 1 ≤ L) (whole : N * L ≡ H) (bits : List ℕ) (
       → readingOf L H (set bits p w) q ≡ 2
   flip-tears q h long e d t =
       let o = owned-run L H N low whole p q h e in
-      ⊎-elim (tears-first q (o .0) long d t (o .1 .0) (o .1 .1)) (tears-second q (o .0) long d t (o .1 .0) (o .1 .1)) (o .1 .2)
+      ⊎-elim (tears-first q (o .0) long d t (o .1 .0) (o .1 .1))
+      (tears-second q (o .0) long d t (o .1 .0) (o .1 .1)) (o .1 .2)
 
 -- the same of all readings of a frame: one is torn, the others are what they were
 module _ (L N H : ℕ) (f : Fits L N H) (bits : List ℕ) (p w : ℕ) where

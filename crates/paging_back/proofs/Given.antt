@@ -1,16 +1,17 @@
 -- What is known once a paging call has answered: none of its refusals held, and what it made. And
--- when `indicator` and `owner` do answer. Cited by the theorems over the calls' answers. Assumes nothing.
+-- when `indicator` and `owner` do answer. Cited by the theorems over the calls' answers.
+-- Assumes nothing.
 use mathlib.Core.Path.{_≡_, refl, sym, _∙_}
-use mathlib.Core.Bool.{Bool, true, false, cond, _||_}
+use mathlib.Core.Bool.{false, _||_}
 use mathlib.Core.List.{List, [], _∷_, _++_}
 use Prim.Native.Nat.{ℕ, _*_, _<_, _≤_}
-use native.Mathlib.Omega.{arith}
-use lib.Dec.{eqb, ltb}
+use lib.Dec.{ltb}
 use lib.ListN.{drop}
-use borrow.Author.Tests.{eqb-true, leb-false, lt-leb, le-ltb}
-use Rattle.refusals.specs.Refusals.{refused, answered, _leaving_, Refusals, firstOf, answer, after}
-use Rattle.refusals.proofs.First.{first-passes, first-none, append-passes, append-front, append-none}
-use Rattle.refusals.proofs.First.{answer-answered, after-answered, leaving-parts}
+use borrow.Author.Tests.{leb-false, lt-leb, le-ltb}
+use Rattle.refusals.specs.Refusals.{answered, _leaving_, Refusals, firstOf}
+use Rattle.refusals.proofs.First.{first-passes, first-none}
+use Rattle.refusals.proofs.First.{append-passes, append-front, append-none}
+use Rattle.refusals.proofs.First.{answer-answered, answer-given, leaving-given}
 use Rattle.conditions.specs.Conditions.{badFrames, badNumber, badBit}
 use Rattle.tables.specs.Tables.{pichRefusals}
 use Rattle.paging_bits.specs.Inside.{Fits, Holds}
@@ -21,23 +22,17 @@ use Rattle.paging.proofs.Passed.{pich-numbered}
 use Rattle.paging.proofs.Lent.{lent-passed}
 use Rattle.paging_back.specs.Back.{numberOf, bitsOf}
 
--- a call that answered was not refused, and answered what it should
-answer-given : {A : Type 0} (n : ℕ) (value given : A) → answer n value ≡ answered given → (n ≡ 0) × (value ≡ given)
-unfolding answer
-answer-given n value given = by (eqb n 0) refl
-  where
-    by : (b : Bool) → eqb n 0 ≡ b → cond b (answered value) (refused n) ≡ answered given → (n ≡ 0) × (value ≡ given)
-    by true t e = (eqb-true n 0 t, cc)
-    by false t e = let z : _≡_ {A = ℕ} 0 1 = cc in absurd (omega arith)
-
 module _ (burst L : ℕ) where
   -- the refusals that both calls begin with, and those behind them
-  behind : firstOf (pichRefusals burst L) ≡ 0 → (rest : Refusals) → firstOf (pichRefusals burst L ++ rest) ≡ firstOf rest
+  behind : firstOf (pichRefusals burst L) ≡ 0 → (rest : Refusals)
+      → firstOf (pichRefusals burst L ++ rest) ≡ firstOf rest
   behind z rest = append-passes (pichRefusals burst L) rest (pich-numbered burst L) z
 
   -- `indicator`
   pub indicator-given : (F PI : ℕ) (x : Place) → indicatorAnswer burst L F PI ≡ answered x
-      → (firstOf (pichRefusals burst L) ≡ 0) × (PI < numberOf burst L * F) × (placeOf L (halfOf burst) PI ≡ x)
+      → (firstOf (pichRefusals burst L) ≡ 0)
+      × (PI < numberOf burst L * F)
+      × (placeOf L (halfOf burst) PI ≡ x)
   unfolding indicatorAnswer indicatorRefusals badNumber
   indicator-given F PI x e =
       let g = answer-given _ _ _ e in
@@ -47,7 +42,8 @@ module _ (burst L : ℕ) where
       (front, leb-false _ _ (number .0), g .1)
 
   pub indicator-answered : (F PI : ℕ) → firstOf (pichRefusals burst L) ≡ 0
-      → 1 ≤ F → F ≤ 4 → PI < numberOf burst L * F → indicatorAnswer burst L F PI ≡ answered (placeOf L (halfOf burst) PI)
+      → 1 ≤ F → F ≤ 4 → PI < numberOf burst L * F
+      → indicatorAnswer burst L F PI ≡ answered (placeOf L (halfOf burst) PI)
   unfolding indicatorAnswer indicatorRefusals badFrames badNumber firstOf
   indicator-answered F PI z low high below =
       let frames : (ltb F 1 || ltb 4 F) ≡ false = simp (le-ltb F 1 low, le-ltb 4 F high) in
@@ -69,9 +65,10 @@ module _ (burst L : ℕ) where
   unfolding ownerAnswer ownerRefusals badBit firstOf
   owner-answered p z h = answer-answered _ _ (behind z _ ∙ first-passes 10 _ [] (lt-leb _ _ h))
 
--- a call on a frame's bytes, which reads `need` of `given` and writes `room` of `out`: it answered n
--- and left `left`
-module _ (burst L need : ℕ) (given : List ℕ) (room : ℕ) (made out : List ℕ) (n : ℕ) (left : List ℕ) where
+-- a call on a frame's bytes, which reads `need` of `given` and writes `room` of `out`: it answered
+-- n and left `left`
+module _ (burst L need : ℕ) (given : List ℕ) (room : ℕ) (made out : List ℕ)
+    (n : ℕ) (left : List ℕ) where
   pub record FrameGiven : Type 0 where
     pub none : firstOf (pichRefusals burst L) ≡ 0
     pub fit : Fits L (numberOf burst L) (halfOf burst)
@@ -80,12 +77,11 @@ module _ (burst L need : ℕ) (given : List ℕ) (room : ℕ) (made out : List �
     pub number : room ≡ n
     pub memory : made ++ drop room out ≡ left
 
-  pub frame-given : frameOutcome burst L need given room made out ≡ (answered n leaving left) → FrameGiven
+  pub frame-given : frameOutcome burst L need given room made out ≡ (answered n leaving left)
+      → FrameGiven
   frame-given e =
       let m = firstOf (frameRefusals burst L need given room out) in
-      let whole = made ++ drop room out in
-      let parts = leaving-parts (answer m room) (answered n) (after m out whole) left e in
-      let told = answer-given m room n (parts .0) in
+      let told = leaving-given m room n out (made ++ drop room out) left e in
       let z = told .0 in
       let passed =
       lent-passed burst L given out (λ _ _. need) (λ _ _. room) (halfOf burst) (numberOf burst L) m
@@ -96,5 +92,5 @@ module _ (burst L need : ℕ) (given : List ℕ) (room : ℕ) (made out : List �
         read = passed .1;
         lent = passed .2;
         number = told .1;
-        memory = sym (after-answered m out whole z) ∙ parts .1;
+        memory = told .2;
       }

@@ -1,6 +1,6 @@
--- What `page` leaves, over its outcome: at every bit what the bit's owner makes of it, an indicator's
--- bits all 1 or all 0, and `read_page` of it gives the settings again. n and `left` are what `page`
--- answered and left. Assumes nothing.
+-- What `page` leaves, over its outcome: at every bit what the bit's owner makes of it, so that an
+-- indicator's bits are all 1 or all 0, and `read_page` of it gives the settings again. n and `left`
+-- are what `page` answered and left. Assumes nothing.
 use mathlib.Core.Path.{_≡_, sym, ap, _∙_}
 use mathlib.Core.List.{List, _++_}
 use mathlib.Core.Logic.{_↔_, ⊎-elim}
@@ -80,16 +80,17 @@ module _ (burst L n : ℕ) (settings out left : List ℕ)
 
   -- `read_page` of what was left, with room for N bytes, answers N and leaves the settings, 0 or 1
   pub page-read : (room : List ℕ) → Holds room (numberOf burst L)
-      → readPageOutcome burst L left room
-      ≡ (answered (numberOf burst L) leaving
-      (run (λ (i : ℕ). asBit (getD settings (i - 1) 0)) (numberOf burst L) ++ drop (numberOf burst L) room))
+      → (let N = numberOf burst L in
+      readPageOutcome burst L left room
+      ≡ (answered N leaving (run (λ (i : ℕ). asBit (getD settings (i - 1) 0)) N ++ drop N room)))
   page-read room h =
       ap (λ (l : List ℕ). readPageOutcome burst L l room) (sym (given .memory))
       ∙ there-and-back burst L settings rest room (given .none) h
 
   -- and wherever it answers, a reading is 1 exactly where its setting is on, and 0 where it is off
   module _ (m : ℕ) (room heard : List ℕ)
-      (read : readPageOutcome burst L left room ≡ (answered m leaving heard)) (q : ℕ) (h : q < m) where
+      (read : readPageOutcome burst L left room ≡ (answered m leaving heard))
+      (q : ℕ) (h : q < m) where
     heard-setting : getD heard q 0 ≡ asBit (getD settings q 0)
     heard-setting =
         let f = given .fit in

@@ -1,6 +1,6 @@
--- What `read_page` leaves, over its outcome: a reading is 0 exactly where all bits that `owner` answers
--- with its q are 0, 1 where all are 1, and 2 where two of them differ. n and `left` are what
--- `read_page` answered and left. Assumes nothing.
+-- What `read_page` leaves, over its outcome: a reading is 0 exactly where all bits that `owner`
+-- answers with its q are 0, 1 where all are 1, and 2 where two of them differ. n and `left` are
+-- what `read_page` answered and left. Cited by the theorems over `page`. Assumes nothing.
 use mathlib.Core.Path.{_≡_, refl, sym, ap, _∙_}
 use mathlib.Core.List.{List}
 use mathlib.Core.Logic.{_⊎_, inl, inr, _↔_, ⊎-elim}
@@ -64,10 +64,12 @@ module _ (burst L n : ℕ) (bits out left : List ℕ)
     -- v is 0 or 1: a reading is v exactly where all its bits are
     alike : (v : ℕ) → (v ≡ 0) ⊎ (v ≡ 1) → (getD left q 0 ≡ v) ↔ AllAre burst L q bits v
     unfolding AllAre
-    alike v is = (
-      λ e p o. read-alike L H N low whole bits q one (given .read) v is (sym (read-at q h) ∙ e) p (mine p o),
-      λ all. read-at q h ∙ alike-read L H N low whole bits q v one is (λ p l o. all p (owns p (l, o))),
-    )
+    alike v is =
+        let at = read-at q h in
+        let long = given .read in (
+          λ e p o. read-alike L H N low whole bits q one long v is (sym at ∙ e) p (mine p o),
+          λ all. at ∙ alike-read L H N low whole bits q v one is (λ p l o. all p (owns p (l, o))),
+        )
 
     -- "0 off": exactly where all its bits are 0
     pub off-all : (getD left q 0 ≡ 0) ↔ AllAre burst L q bits 0

@@ -56,12 +56,16 @@ module _ (L H N : ℕ) (low : 1 ≤ L) (whole : N * L ≡ H) where
 
   -- an indicator whose bits are all 0, or all 1, is read so
   pub alike-read : (bits : List ℕ) (q v : ℕ) → q < N → (v ≡ 0) ⊎ (v ≡ 1)
-      → ((p : ℕ) → p < bitsIn H → ownerAt L H p ≡ owned q → asBit (getD bits p 0) ≡ v) → readingOf L H bits q ≡ v
+      → ((p : ℕ) → p < bitsIn H → ownerAt L H p ≡ owned q → asBit (getD bits p 0) ≡ v)
+      → readingOf L H bits q ≡ v
   alike-read bits q v h is all =
       let ends = run-within L N q h in
-      let both : v * L + v * L ≡ v * (2 * L) = omega (arith, mul-assoc v 2 L, mul-comm v 2, mul-assoc 2 v L) in
-      let first = ones-all bits (L * q) L v (λ j l. all (L * q + j) (omega arith) (first-owned q j h l)) in
-      let second = ones-all bits (H + 4 + L * q) L v (λ j l. all (H + 4 + L * q + j) (omega arith) (second-owned q j l)) in
+      let a = L * q in
+      let b = H + 4 + L * q in
+      let both : v * L + v * L ≡ v * (2 * L) =
+      omega (arith, mul-assoc v 2 L, mul-comm v 2, mul-assoc 2 v L) in
+      let first = ones-all bits a L v (λ j l. all (a + j) (omega arith) (first-owned q j h l)) in
+      let second = ones-all bits b L v (λ j l. all (b + j) (omega arith) (second-owned q j l)) in
       reading-runs L H bits q (omega arith)
       ∙ ap (λ (k : ℕ). heard (k + onesFrom bits (H + 4 + L * q) L) (2 * L)) first
       ∙ ap (λ (k : ℕ). heard (v * L + k) (2 * L)) second

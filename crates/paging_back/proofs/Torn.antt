@@ -1,5 +1,5 @@
--- What a reading says of its indicator's bits, and what they say of it: 0 where all are 0, 1 where all
--- are 1, 2 where two of them differ. Cited by the theorems over `read_page`.
+-- What a reading says of its indicator's bits, and what they say of it: 0 where all are 0, 1 where
+-- all are 1, 2 where two of them differ. Cited by the theorems over `read_page`.
 -- Said over run length L, half H and number N, with N runs filling a half. Assumes nothing.
 use mathlib.Core.Path.{_≡_, refl, sym, ap, _∙_}
 use mathlib.Core.List.{List}
@@ -21,7 +21,8 @@ use Rattle.paging_back.proofs.Readings.{first-owned, second-owned, alik
 abbrev pub Mine : ℕ → ℕ → ℕ → ℕ → Type 0
 Mine L H q p = (p < bitsIn H) × (ownerAt L H p ≡ owned q)
 
-module _ (L H N : ℕ) (low : 1 ≤ L) (whole : N * L ≡ H) (bits : List ℕ) (q : ℕ) (inside : q < N) where
+module _ (L H N : ℕ) (low : 1 ≤ L) (whole : N * L ≡ H) (bits : List ℕ)
+    (q : ℕ) (inside : q < N) where
   -- a bit of q that is not v
   abbrev Other : ℕ → Type 0
   Other v = (p : ℕ) × (Mine L H q p) × (bitAt bits p ≡ v → ⊥)

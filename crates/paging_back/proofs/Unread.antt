@@ -1,6 +1,6 @@
--- What the calls do not read: settings behind the first N, bits behind the 244 or 276, reserved bits,
--- and of a byte no more than whether it is 0. Over the outcomes of `page` and `read_page`, answered or
--- refused. Assumes nothing.
+-- What the calls do not read: settings behind the first N, bits behind the 244 or 276, reserved
+-- bits, and of a byte no more than whether it is 0. Over the outcomes of `page` and `read_page`,
+-- answered or refused. Assumes nothing.
 use mathlib.Core.Path.{_≡_, refl, sym, ap, _∙_}
 use mathlib.Core.List.{List, [], _∷_, _++_, map}
 use mathlib.Core.Logic.{⊎-elim}
@@ -28,7 +28,7 @@ pub bits-table : map bitsOf (1 ∷ 2 ∷ []) ≡ 244 ∷ 276 ∷ []
 unfolding halfOf carryingOf
 bits-table = refl
 
--- memories with the same first n bytes: both are too short or neither, and each of the n is the same
+-- memories with the same first n bytes: both are too short or neither, and each of the n is alike
 module _ (n : ℕ) (l l' : List ℕ) (e : take n l ≡ take n l') where
   front-short : tooShort n l ≡ tooShort n l'
   unfolding tooShort
@@ -41,7 +41,8 @@ module _ (n : ℕ) (l l' : List ℕ) (e : take n l ≡ take n l') where
       (below-or-not (length l) n)
 
   front-at : (i : ℕ) → i < n → getD l i 0 ≡ getD l' i 0
-  front-at i h = sym (getD-take n l i 0 h) ∙ ap (λ (m : List ℕ). getD m i 0) e ∙ getD-take n l' i 0 h
+  front-at i h =
+      sym (getD-take n l i 0 h) ∙ ap (λ (m : List ℕ). getD m i 0) e ∙ getD-take n l' i 0 h
 
 -- memories that are both long enough
 both-long : (n : ℕ) (l l' : List ℕ) → Holds l n → Holds l' n → tooShort n l ≡ tooShort n l'
@@ -53,7 +54,8 @@ both-long n l l' h h' = le-ltb _ _ h ∙ sym (le-ltb (length l') n h')
 module _ (burst L need : ℕ) (given given' : List ℕ) (room : ℕ) (made made' out : List ℕ) where
   frame-same : tooShort need given ≡ tooShort need given'
       → (firstOf (pichRefusals burst L) ≡ 0 → made ≡ made')
-      → frameOutcome burst L need given room made out ≡ frameOutcome burst L need given' room made' out
+      → frameOutcome burst L need given room made out
+      ≡ frameOutcome burst L need given' room made' out
   frame-same e same =
       let n = firstOf (frameRefusals burst L need given' room out) in
       rw e
@@ -62,7 +64,8 @@ module _ (burst L need : ℕ) (given given' : List ℕ) (room : ℕ) (made made'
       let none = append-front (pichRefusals burst L) _ (pich-numbered burst L) z in
       ap (λ (l : List ℕ). answer n room leaving after n out (l ++ drop room out)) (same none))
       (λ (d : n ≡ 0 → ⊥).
-      ap (λ (l : List ℕ). answer n room leaving l) (after-refused n out _ d ∙ sym (after-refused n out _ d)))
+      ap (λ (l : List ℕ). answer n room leaving l)
+      (after-refused n out _ d ∙ sym (after-refused n out _ d)))
       (equal-or-not n 0))
 
 -- settings that are on and off alike give the same burst
@@ -89,8 +92,9 @@ module _ (burst L : ℕ) (settings settings' out : List ℕ) where
   unfolding pageOutcome
   settings-beyond e =
       let N = numberOf burst L in
+      let at = front-at N settings settings' e in
       frame-same burst L N settings settings' _ _ _ out (front-short N settings settings' e)
-      (λ z. burst-same L settings settings' N (λ q h. ap asBit (front-at N settings settings' e q h)))
+      (λ z. burst-same L settings settings' N (λ q h. ap asBit (at q h)))
 
   -- "0 off, any other on": nor more of a setting than whether it is 0
   pub settings-on : Holds settings (numberOf burst L) → Holds settings' (numberOf burst L)
@@ -108,22 +112,25 @@ module _ (burst L : ℕ) (bits bits' out : List ℕ) where
   SameOwned = (q p : ℕ) → Owns burst L q p → bitAt bits p ≡ bitAt bits' p
 
   readings-same : SameOwned → firstOf (pichRefusals burst L) ≡ 0
-      → readingsOf L (numberOf burst L) (halfOf burst) bits ≡ readingsOf L (numberOf burst L) (halfOf burst) bits'
+      → (let H = halfOf burst in
+      let N = numberOf burst L in
+      readingsOf L N H bits ≡ readingsOf L N H bits')
   readings-same same z =
       none-reserved-read L (numberOf burst L) (halfOf burst) (fits burst L z) bits bits'
       (λ p q h o. same q p (owner-answered burst L p z h ∙ ap answered o))
 
-  -- `read_page` reads no bit behind the 244 or 276: for the same bits it answers and leaves the same
+  -- `read_page` reads no bit behind the 244 or 276: for the same it answers and leaves the same
   pub bits-beyond : take (bitsOf burst) bits ≡ take (bitsOf burst) bits'
       → readPageOutcome burst L bits out ≡ readPageOutcome burst L bits' out
   unfolding readPageOutcome
   bits-beyond e =
       let n = bitsOf burst in
-      let same : SameOwned = λ q p o. ap asBit (front-at n bits bits' e p (owner-given burst L p (owned q) o .1)) in
+      let same : SameOwned =
+      λ q p o. ap asBit (front-at n bits bits' e p (owner-given burst L p (owned q) o .1)) in
       frame-same burst L n bits bits' _ _ _ out (front-short n bits bits' e) (readings-same same)
 
-  -- "a byte other than 0 is 1. Reserved bits are not read": nor any but those, nor more of a byte than
-  -- whether it is 0
+  -- "a byte other than 0 is 1. Reserved bits are not read": of the 244 or 276 only those that
+  -- `owner` gives to some q, and of a byte only whether it is 0
   pub bits-owned : Holds bits (bitsOf burst) → Holds bits' (bitsOf burst)
       → ((q p : ℕ) → Owns burst L q p → bitAt bits p ≡ bitAt bits' p)
       → readPageOutcome burst L bits out ≡ readPageOutcome burst L bits' out

@@ -1,4 +1,6 @@
--- What the theorems on paging bits speak of: the bits that a place names, and what a bit's owner makes of it. L is the length of an indicator's runs, H half the carrying bits.
+-- What the theorems on paging bits speak of: the bits that a place names, what a bit's owner makes
+-- of it, and when an indicator's bits are alike or differ. L is the length of an indicator's runs, H
+-- half the carrying bits, q an indicator, p a bit by its place in time order.
 -- Cited by the theorems of `paging_back`. Assumes nothing.
 use mathlib.Core.Path.{_≡_}
 use mathlib.Core.Bool.{Bool, false}
@@ -34,7 +36,7 @@ unfoldable pub ownerIs : ℕ → Owner → Bool
 ownerIs q reserved = false
 ownerIs q (owned r) = eqb q r
 
--- N, how many a timeslot of this burst type holds, and the bits of its burst in time order: "244 or 276"
+-- N, how many a timeslot holds, by its burst type; and the bits of its burst, "244 or 276"
 abbrev pub numberOf : ℕ → ℕ → ℕ
 numberOf burst L = perFrame L (halfOf burst)
 
@@ -60,4 +62,5 @@ AllAre burst L q bits v = (p : ℕ) → Owns burst L q p → bitAt bits p ≡ v
 -- "torn where its bits differ": two bits of q are not the same
 unfoldable pub Differ : ℕ → ℕ → ℕ → List ℕ → Type 0
 Differ burst L q bits =
-    (p : ℕ) × (p' : ℕ) × (Owns burst L q p) × (Owns burst L q p') × (bitAt bits p ≡ bitAt bits p' → ⊥)
+    (p : ℕ) × (p' : ℕ) × (Owns burst L q p) × (Owns burst L q p')
+    × (bitAt bits p ≡ bitAt bits p' → ⊥)

@@ -10,15 +10,15 @@ use lib.Seq.{ext-getD, getD-set-same, getD-set-other}
 use Rattle.laws.specs.Runs.{run}
 use Rattle.laws.proofs.Cases.{equal-or-not}
 use Rattle.laws.proofs.Runs.{run-length}
-use Rattle.paging_bits.specs.Bits.{bitsIn, inTime, asBit, burstOf, onesFrom, heard, readingOf, readingsOf}
+use Rattle.paging_bits.specs.Bits.{bitsIn, asBit, burstOf, onesFrom, heard, readingOf, readingsOf}
 use Rattle.paging_bits.specs.Inside.{Fits}
 use Rattle.paging_bits.proofs.OneRun.{run-within}
-use Rattle.paging_bits.proofs.Counted.{as-bit-most, time-first, time-second, reading-runs}
+use Rattle.paging_bits.proofs.Counted.{as-bit-most, reading-runs}
 use Rattle.paging.specs.Paging.{owned, ownerAt}
 use Rattle.paging_back.proofs.Counted.{ones-elsewhere, ones-changed}
 use Rattle.paging_back.proofs.Heard.{heard-changed}
 use Rattle.paging_back.proofs.Rows.{row-at}
-use Rattle.paging_back.proofs.Owners.{owned-has}
+use Rattle.paging_back.proofs.Owners.{owned-has, owned-run}
 use Rattle.paging_back.proofs.Written.{burst-length, owned-written}
 use Rattle.paging_back.proofs.Readings.{first-owned, second-owned, as-bit-again, read-back, all-read-back}
 
@@ -73,18 +73,9 @@ module _ (L H N : ℕ) (low : 1 ≤ L) (whole : N * L ≡ H) (bits : List ℕ) (
   pub flip-tears : (q : ℕ) → p < bitsIn H → p < length bits → ownerAt L H p ≡ owned q → (asBit w ≡ asBit (getD bits p 0) → ⊥) → (readingOf L H bits q ≡ 2 → ⊥)
       → readingOf L H (set bits p w) q ≡ 2
   flip-tears q h long e d t =
-      let o = owned-has L H N low whole p q h e in
-      let ends = run-within L N q (o .0) in
-      let b = o .1 .0 in
-      let j = o .1 .1 .0 in
-      let l : j < L = o .1 .1 .1 in
-      let at : inTime H b ≡ p = o .1 .2 in
-      ⊎-elim
-      (λ (k : b ≡ L * q + j). tears-first q (o .0) long d t j l (omega (arith, time-first H b (omega arith))))
-      (λ (k : b ≡ H + L * q + j).
-      let m : H + (L * q + j) ≡ b = omega arith in
-      tears-second q (o .0) long d t j l (omega (arith, time-second H (L * q + j), ap (inTime H) m)))
-      (o .1 .1 .2)
+      let o = owned-run L H N low whole p q h e in
+      ⊎-elim (tears-first q (o .0) long d t (o .1 .0) (o .1 .1))
+      (tears-second q (o .0) long d t (o .1 .0) (o .1 .1)) (o .1 .2)
 
 -- the same of all readings of a frame: one is torn, the others are what they were
 module _ (L N H : ℕ) (f : Fits L N H) (bits : List ℕ) (p w : ℕ) where

@@ -39,6 +39,25 @@ heard-torn : (ones n : ℕ) → (ones ≡ 0 → ⊥) → (ones ≡ n → ⊥) �
 unfolding heard
 heard-torn ones n g h = simp (ne-eqb ones 0 g, ne-eqb ones n h)
 
+-- so only none is heard as off, and only all as on; what is heard as neither is torn
+pub heard-none : (ones n : ℕ) → 1 ≤ n → heard ones n ≡ 0 → ones ≡ 0
+heard-none ones n low e =
+    ⊎-elim (λ (z : ones ≡ 0). z)
+    (λ (z : ones ≡ n). absurd (omega (arith, ap (λ (k : ℕ). heard k n) z, heard-on n low)))
+    (untorn-cases ones n (λ t. omega arith))
+
+pub heard-full : (ones n : ℕ) → heard ones n ≡ 1 → ones ≡ n
+heard-full ones n e =
+    ⊎-elim (λ (z : ones ≡ 0). absurd (omega (arith, ap (λ (k : ℕ). heard k n) z, heard-off n)))
+    (λ (z : ones ≡ n). z)
+    (untorn-cases ones n (λ t. omega arith))
+
+pub heard-else : (ones n : ℕ) → 1 ≤ n → (heard ones n ≡ 0 → ⊥) → (heard ones n ≡ 1 → ⊥)
+    → heard ones n ≡ 2
+heard-else ones n low a b =
+    heard-torn ones n (λ z. a (ap (λ (k : ℕ). heard k n) z ∙ heard-off n))
+    (λ z. b (ap (λ (k : ℕ). heard k n) z ∙ heard-on n low))
+
 -- of n bits that are not torn one changes, from o to w: then some are 1 and some 0
 pub heard-changed : (n x y o w : ℕ) → 2 ≤ n → o ≤ 1 → w ≤ 1 → (w ≡ o → ⊥) → y + o ≡ x + w → (heard x n ≡ 2 → ⊥) → heard y n ≡ 2
 heard-changed n x y o w low a b d e h =

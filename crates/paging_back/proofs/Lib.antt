@@ -3,6 +3,12 @@ pub mod Heard
 pub mod Rows
 pub mod Tally
 pub mod Owners
+pub mod Given
+pub mod Answers
 pub mod Written
 pub mod Readings
 pub mod Flips
+pub mod Torn
+pub mod Read
+pub mod Pages
+pub mod Unread

@@ -80,6 +80,21 @@ module _ (L H N : ℕ) (low : 1 ≤ L) (whole : N * L ≡ H) where
       (r .0, (H + b, (r .1 .0, r .1 .1, inr (omega (arith, r .1 .2))), time-second H b ∙ w .2)))
       (place-cases L H p q h e)
 
+  -- in time order it lies in its owner's first run, or in the second
+  pub owned-run : (p q : ℕ) → p < bitsIn H → ownerAt L H p ≡ owned q
+      → (q < N) × ((j : ℕ) × (j < L) × ((L * q + j ≡ p) ⊎ (H + 4 + L * q + j ≡ p)))
+  owned-run p q h e =
+      let (below, (b, (j, l, w), at)) = owned-has p q h e in
+      let ends = run-within L N q below in
+      let run : (L * q + j ≡ p) ⊎ (H + 4 + L * q + j ≡ p) =
+      ⊎-elim
+      (λ (k : b ≡ L * q + j). inl (omega (arith, time-first H b (omega arith))))
+      (λ (k : b ≡ H + L * q + j).
+      let m : H + (L * q + j) ≡ b = omega arith in
+      inr (omega (arith, time-second H (L * q + j), ap (inTime H) m)))
+      w in
+      (below, (j, l, run))
+
   -- each carrying bit has an owner, and only one
   pub every-bit-owned : (b : ℕ) → b < H + H → (q : ℕ) × (q < N) × Has L H q b
   every-bit-owned b h =

@@ -3,7 +3,7 @@
 use mathlib.Core.Path.{_≡_, refl, sym, ap, _∙_}
 use mathlib.Core.Bool.{false, _||_}
 use mathlib.Core.List.{List, [], _++_}
-use mathlib.Core.Logic.{⊎-elim}
+use mathlib.Core.Logic.{_⊎_, ⊎-elim}
 use Prim.Native.Nat.{ℕ, _+_, _-_, _*_, _<_, _≤_}
 use native.Mathlib.Nat.{mul-assoc, mul-comm}
 use native.Mathlib.Omega.{arith}
@@ -54,20 +54,30 @@ module _ (L H N : ℕ) (low : 1 ≤ L) (whole : N * L ≡ H) where
       ∙ ap (λ (k : ℕ). heard (onesFrom bits' (L * q) L + k) (2 * L)) second
       ∙ sym (reading-runs L H bits' q (omega arith))
 
+  -- an indicator whose bits are all 0, or all 1, is read so
+  pub alike-read : (bits : List ℕ) (q v : ℕ) → q < N → (v ≡ 0) ⊎ (v ≡ 1)
+      → ((p : ℕ) → p < bitsIn H → ownerAt L H p ≡ owned q → asBit (getD bits p 0) ≡ v)
+      → readingOf L H bits q ≡ v
+  alike-read bits q v h is all =
+      let ends = run-within L N q h in
+      let a = L * q in
+      let b = H + 4 + L * q in
+      let both : v * L + v * L ≡ v * (2 * L) =
+      omega (arith, mul-assoc v 2 L, mul-comm v 2, mul-assoc 2 v L) in
+      let first = ones-all bits a L v (λ j l. all (a + j) (omega arith) (first-owned q j h l)) in
+      let second = ones-all bits b L v (λ j l. all (b + j) (omega arith) (second-owned q j l)) in
+      reading-runs L H bits q (omega arith)
+      ∙ ap (λ (k : ℕ). heard (k + onesFrom bits (H + 4 + L * q) L) (2 * L)) first
+      ∙ ap (λ (k : ℕ). heard (v * L + k) (2 * L)) second
+      ∙ ap (λ (k : ℕ). heard k (2 * L)) both
+      ∙ heard-all v (2 * L) (omega arith) is
+
   -- reading what was written gives the setting back, 0 or 1
   pub read-back : (settings rest : List ℕ) (q : ℕ) → q < N → readingOf L H (burstOf L N settings ++ rest) q ≡ asBit (getD settings q 0)
   read-back settings rest q h =
-      let ends = run-within L N q h in
-      let bits = burstOf L N settings ++ rest in
       let v = getD settings q 0 in
-      let both : (b : ℕ) → b * L + b * L ≡ b * (2 * L) = λ b. omega (arith, mul-assoc b 2 L, mul-comm b 2, mul-assoc 2 b L) in
-      let first = ones-all bits (L * q) L (asBit v) (λ j l. ap asBit (owned-written L H N low whole settings rest (L * q + j) q (omega arith) (first-owned q j h l)) ∙ as-bit-again v) in
-      let second = ones-all bits (H + 4 + L * q) L (asBit v) (λ j l. ap asBit (owned-written L H N low whole settings rest (H + 4 + L * q + j) q (omega arith) (second-owned q j l)) ∙ as-bit-again v) in
-      reading-runs L H bits q (omega arith)
-      ∙ ap (λ (k : ℕ). heard (k + onesFrom bits (H + 4 + L * q) L) (2 * L)) first
-      ∙ ap (λ (k : ℕ). heard (asBit v * L + k) (2 * L)) second
-      ∙ ap (λ (k : ℕ). heard k (2 * L)) (both (asBit v))
-      ∙ heard-all (asBit v) (2 * L) (omega arith) (as-bit-cases v)
+      alike-read (burstOf L N settings ++ rest) q (asBit v) h (as-bit-cases v)
+      (λ p l o. ap asBit (owned-written L H N low whole settings rest p q l o) ∙ as-bit-again v)
 
 -- the same of all readings of a frame
 module _ (L N H : ℕ) (f : Fits L N H) where

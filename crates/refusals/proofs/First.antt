@@ -3,11 +3,13 @@
 use mathlib.Core.Path.{_≡_, refl, sym, ap, _∙_}
 use mathlib.Core.Bool.{Bool, true, false, _&&_}
 use mathlib.Core.List.{[], _∷_, _++_}
+use mathlib.Core.Logic.{⊎-elim}
 use Prim.Native.Nat.{ℕ, suc}
 use native.Mathlib.Omega.{arith}
 use lib.Dec.{T, ltb, ltb→lt}
 use borrow.Author.Tests.{eq-eqb, ne-eqb}
 use Rattle.laws.proofs.Bools.{true-false, T-and-left, T-and-right}
+use Rattle.laws.proofs.Cases.{equal-or-not}
 use Rattle.refusals.specs.Refusals.{Answer, refused, answered, _leaving_, Refusals, firstOf, answer, after}
 use Rattle.refusals.specs.Inside.{orRefused, rowByRow}
 
@@ -160,3 +162,22 @@ answered-leaving n m given value before out made e z v l =
 -- equal outcomes have equal answers, and leave the same
 pub leaving-parts : {A M : Type 0} (x y : Answer A) (m n : M) → (x leaving m) ≡ (y leaving n) → (x ≡ y) × (m ≡ n)
 leaving-parts x y m n e = (cc, cc)
+
+-- and back: a call that answered found no refusal, answered the value, and left what it makes
+pub answer-given : {A : Type 0} (n : ℕ) (value given : A) → answer n value ≡ answered given
+    → (n ≡ 0) × (value ≡ given)
+answer-given n value given e =
+    ⊎-elim
+    (λ (z : n ≡ 0). let a = answer-answered n value z in (z, cc))
+    (λ (d : n ≡ 0 → ⊥).
+    let r = answer-refused n value d in
+    let z : _≡_ {A = ℕ} 0 1 = cc in absurd (omega arith))
+    (equal-or-not n 0)
+
+pub leaving-given : {A M : Type 0} (n : ℕ) (value given : A) (before made left : M)
+    → (answer n value leaving after n before made) ≡ (answered given leaving left)
+    → (n ≡ 0) × (value ≡ given) × (made ≡ left)
+leaving-given n value given before made left e =
+    let p = leaving-parts (answer n value) (answered given) (after n before made) left e in
+    let g = answer-given n value given (p .0) in
+    (g .0, g .1, sym (after-answered n before made (g .0)) ∙ p .1)

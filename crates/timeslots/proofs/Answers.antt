@@ -1,28 +1,18 @@
 -- What the two definitions `partsAnswer` and `atAnswer` come to: the parts' refusals, then 10, then what lies at the chip.
 -- Cited by the proofs of `parts` and `at`, and by the crate there_and_back. Assumes nothing.
-use mathlib.Core.Path.{_≡_, refl, sym, _∙_}
-use mathlib.Core.Bool.{Bool, true, false, cond}
+use mathlib.Core.Path.{_≡_, sym, _∙_}
 use mathlib.Core.List.{[], _∷_}
 use Prim.Native.Nat.{ℕ, _<_, _≤_}
 use native.Mathlib.Omega.{arith}
-use lib.Dec.{eqb}
-use borrow.Author.Tests.{lt-ltb, le-ltb, eqb-true}
-use Rattle.refusals.specs.Refusals.{refused, answered, firstOf, answer}
-use Rattle.refusals.proofs.First.{first-holds, first-passes, append-refused, append-passes, answer-refused, answer-answered}
+use borrow.Author.Tests.{lt-ltb, le-ltb}
+use Rattle.refusals.specs.Refusals.{refused, answered, firstOf}
+use Rattle.refusals.proofs.First.{first-holds, first-passes, append-refused, append-passes}
+use Rattle.refusals.proofs.First.{answer-refused, answer-answered, answer-given}
 use Rattle.conditions.specs.declared.Direction.{Direction}
 use Rattle.conditions.specs.Conditions.{badSlotChip}
 use Rattle.tables.specs.Tables.{partsRefusals}
 use Rattle.timeslots.specs.Timeslots.{SevenParts, sevenParts, liesAt}
 use Rattle.timeslots.specs.Calls.{atRefusals, partsAnswer, atAnswer}
-
--- a call that answered was not refused, and answered what it should
-pub answer-given : {A : Type 0} (n : ℕ) (value given : A) → answer n value ≡ answered given → (n ≡ 0) × (value ≡ given)
-unfolding answer
-answer-given n value given = by (eqb n 0) refl
-  where
-    by : (b : Bool) → eqb n 0 ≡ b → cond b (answered value) (refused n) ≡ answered given → (n ≡ 0) × (value ≡ given)
-    by true t e = (eqb-true n 0 t, cc)
-    by false t e = let z : _≡_ {A = ℕ} 0 1 = cc in absurd (omega arith)
 
 module _ (burst : ℕ) (direction : Direction) (factor tfci tpc : ℕ) where
   pub parts-refused : (n : ℕ) → n ≡ firstOf (partsRefusals burst direction factor tfci tpc) → (n ≡ 0 → ⊥)

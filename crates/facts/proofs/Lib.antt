@@ -1,0 +1,4 @@
+pub mod Orders
+pub mod Replies
+pub mod Calls
+pub mod Sequences

@@ -2,3 +2,4 @@ pub mod Orders
 pub mod Replies
 pub mod Calls
 pub mod Sequences
+pub mod Fields

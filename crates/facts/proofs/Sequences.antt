@@ -5,19 +5,20 @@ use mathlib.Core.Path.{_≡_, refl, sym, ap, _∙_}
 use mathlib.Core.Bool.{Bool, true, false, cond, not, _||_}
 use mathlib.Core.List.{List, [], _∷_, _++_}
 use mathlib.Core.Logic.{_↔_, ⊎-elim}
-use Prim.Native.Nat.{ℕ, zero, suc, _+_, _-_, _*_, _<_, _≤_}
+use Prim.Native.Nat.{ℕ, suc, _+_, _*_, _<_, _≤_}
 use native.Mathlib.Omega.{arith}
 use lib.Dec.{eqb, ltb, lit≤}
-use borrow.Author.Tests.{le-ltb, ltb-false, eqb-true, eq-eqb, not-false}
+use borrow.Author.Tests.{le-ltb, ltb-false, eqb-true, not-false}
 use Rattle.laws.proofs.Bools.{or-false}
 use Rattle.laws.proofs.Cases.{either}
-use Rattle.refusals.specs.Refusals.{Refusals, firstOf, answer, answered}
+use Rattle.refusals.specs.Refusals.{firstOf, answer, answered}
 use Rattle.refusals.proofs.First.{first-none, first-passes, append-none, append-passes}
 use Rattle.refusals.proofs.First.{answer-answered}
-use Rattle.conditions.specs.Conditions.{badCell, badType, badCount, badUser, badMidambleChip, tooShort}
+use Rattle.conditions.specs.Conditions.{badCell, badType, badCount, badUser}
+use Rattle.conditions.specs.Conditions.{badMidambleChip, tooShort}
 use Rattle.tables.specs.Tables.{userRefusals}
 use Rattle.codes.specs.Codes.{short, long, codeOf, shiftOf}
-use Rattle.codes.proofs.Numbers.{of-codes, lastOf, reads-within, last-elements}
+use Rattle.codes.proofs.Numbers.{lastOf, reads-within, last-elements}
 use Rattle.midambles.specs.TrainingSequences.{chipOf}
 use Rattle.midambles.specs.Calls.{chipRefusals, chipAnswer, midambleRefusals, midambleOutcome}
 use Rattle.timeslots.proofs.Answers.{answer-given}
@@ -56,17 +57,19 @@ module _ (cell burst : ℕ) (one : badCell cell ≡ false) (two : badType burst 
       by true = refl
       by false = refl
 
-  full-passes : (user : ℕ) → 1 ≤ user → user ≤ full → firstOf (userRefusals cell burst full user) ≡ 0
+  full-passes : (user : ℕ) → 1 ≤ user → user ≤ full
+      → firstOf (userRefusals cell burst full user) ≡ 0
   unfolding userRefusals firstOf badUser
-  full-passes user low high = rw (one, two, full-count, le-ltb user 1 low, le-ltb full user high) refl
+  full-passes user low high =
+      rw (one, two, full-count, le-ltb user 1 low, le-ltb full user high) refl
 
   -- with one refusal behind them that does not hold either: 10 of a chip, 11 of a whole midamble
   full-passes-with : (user n : ℕ) (last : Bool) → 1 ≤ user → user ≤ full → last ≡ false
       → firstOf (userRefusals cell burst full user ++ ((n, last) ∷ [])) ≡ 0
   unfolding userRefusals firstOf
   full-passes-with user n last low high e =
-      append-passes (userRefusals cell burst full user) ((n, last) ∷ []) tt (full-passes user low high)
-      ∙ first-passes n last [] e
+      let t = userRefusals cell burst full user in
+      append-passes t ((n, last) ∷ []) tt (full-passes user low high) ∙ first-passes n last [] e
 
 -- ---- the last element
 
@@ -78,7 +81,8 @@ last-of burst = by (eqb burst 2)
     by true = last-elements .1
     by false = last-elements .0
 
-module _ (cell burst count user i p : ℕ) (given : chipAnswer cell burst count user i ≡ answered p) where
+module _ (cell burst count user i p : ℕ)
+    (given : chipAnswer cell burst count user i ≡ answered p) where
   told : (firstOf (chipRefusals cell burst count user i) ≡ 0) × (chipOf cell burst user i ≡ p)
   unfolding chipAnswer
   told = answer-given _ _ p given
@@ -113,7 +117,8 @@ module _ (cell burst : ℕ) (one : badCell cell ≡ false) (two : badType burst 
   unfolding elementRead codeOf shiftOf lastElement
   last-element = by (eqb burst 2)
     where
-      by : (b : Bool) → (let c = cond b short long in c .length + shiftOf c (2 * c .base)) ≡ cond b 416 939
+      by : (b : Bool) → (let c = cond b short long in
+          c .length + shiftOf c (2 * c .base)) ≡ cond b 416 939
       by true = refl
       by false = refl
 
@@ -130,7 +135,10 @@ module _ (cell burst : ℕ) (one : badCell cell ≡ false) (two : badType burst 
       ≡ answered (elementOf cell burst (lastElement burst))
   unfolding chipAnswer chipRefusals chipOf elementOf elementRead
   last-is-read =
-      answer-answered _ _ (full-passes-with cell burst one two last-user 10 _ (chip-inside .0) (omega arith) (chip-inside .1))
+      let here = chip-inside in
+      let high : last-user ≤ last-user = omega arith in
+      answer-answered _ _
+      (full-passes-with cell burst one two last-user 10 _ (here .0) high (here .1))
       ∙ ap (λ (n : ℕ). answered (elementOf cell burst n)) last-element
 
 -- ---- the users above K'
@@ -155,8 +163,8 @@ module _ (cell burst count user : ℕ) (above : codeOf burst .base < user) where
       let u = user-given cell burst count user e in
       count-full (eqb burst 2) count user c above (u .1)
 
--- and with that count they do, K' + 1 to 2K': where nothing else is refused, such a user is answered
--- exactly then
+-- and with that count they do, K' + 1 to 2K': where nothing else is refused, such a user is
+-- answered exactly then
 module _ (cell burst count user : ℕ) (one : badCell cell ≡ false) (two : badType burst ≡ false)
     (above : codeOf burst .base < user) where
   abbrev Exists : Type 0
@@ -168,13 +176,13 @@ module _ (cell burst count user : ℕ) (one : badCell cell ≡ false) (two : bad
   unfolding userRefusals
   exists n last value e = (
     λ g.
-      let z = answer-given _ value (g .0) (g .1) .0 in
-      let none = append-none (userRefusals cell burst count user) n last tt z .0 in
-      let full = above-only cell burst count user above none in
-      (full, omega (arith, full, user-given cell burst count user none .1)),
+        let z = answer-given _ value (g .0) (g .1) .0 in
+        let none = append-none (userRefusals cell burst count user) n last tt z .0 in
+        let full = above-only cell burst count user above none in
+        (full, omega (arith, full, user-given cell burst count user none .1)),
     λ g.
-      let z = full-passes-with cell burst one two user (suc n) last (omega arith) (g .1) e in
-      (value, answer-answered _ value (rw (g .0) z)),
+        let z = full-passes-with cell burst one two user (suc n) last (omega arith) (g .1) e in
+        (value, answer-answered _ value (rw (g .0) z)),
   )
 
   pub chip-above : (i : ℕ) → badMidambleChip (codeOf burst .length) i ≡ false

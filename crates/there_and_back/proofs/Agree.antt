@@ -23,7 +23,7 @@ use Rattle.timeslots.proofs.Answers.{parts-given, at-beyond, at-answered}
 use Rattle.there_and_back.proofs.Cover.{spans-given, seven, total}
 
 -- a part's place in the order
-pub place : Part → ℕ
+unfoldable pub place : Part → ℕ
 place DATA1 = 0
 place TFCI1 = 1
 place MIDAMBLE = 2

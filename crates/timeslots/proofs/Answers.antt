@@ -1,5 +1,5 @@
 -- What the two definitions `partsAnswer` and `atAnswer` come to: the parts' refusals, then 10, then what lies at the chip.
--- Cited by the proofs of `parts` and `at`, and by the crate there_and_back. Assumes nothing.
+-- Cited by the proofs of `parts` and `at`, and by the crates there_and_back and facts. Assumes nothing.
 use mathlib.Core.Path.{_≡_, sym, _∙_}
 use mathlib.Core.List.{[], _∷_}
 use Prim.Native.Nat.{ℕ, _<_, _≤_}

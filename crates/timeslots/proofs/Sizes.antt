@@ -1,5 +1,5 @@
 -- The seven lengths of a request that is not refused: control fits beside the data, all seven make 2,560 chips, and each part is a whole
--- number of what is counted in it. Once over the numbers. Cited by the proofs of `part_lengths`, `placed` and `lies_at`, and by the crate there_and_back. Assumes nothing.
+-- number of what is counted in it. Once over the numbers. Cited by the proofs of `part_lengths`, `placed` and `lies_at`, and by the crates there_and_back and facts. Assumes nothing.
 use mathlib.Core.Path.{_≡_, subst}
 use Prim.Native.Nat.{ℕ, _+_, _-_, _/_, _%_, _<_, _≤_, _∣_}
 use native.Mathlib.Nat.{mul-le-mul, le-of-dvd, pos-of-dvd-of-pos, dvd-trans, dvd-mul-left, dvd-mul-left-of-dvd, dvd-add, dvd-add-iff-right, dvd-of-mod-eq-zero, one-dvd}

@@ -1,0 +1,5 @@
+pub mod Orders
+pub mod Replies
+pub mod Calls
+pub mod Sequences
+pub mod Fields

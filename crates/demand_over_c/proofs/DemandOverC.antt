@@ -14,7 +14,7 @@ use Rattle.classbook.specs.declared.Book.{Book}
 use Rattle.classbook.specs.Book.{emptyBook, seatOf, planOf, common}
 use Rattle.classbook.specs.Conditions.{badBook, badSeat, notOpen}
 use Rattle.classbook.specs.Calls.{seatRefusals}
-use Rattle.demand.specs.Lesson.{Turn, reply, numberOf, log, turns, Line}
+use Rattle.demand.specs.Lesson.{Turn, reply, numberOf, log, turns}
 use Rattle.demand.specs.Demand.{holds, bookAfter, AtMostForty, AtMostEighty, TensAreSafe, left}
 use Rattle.demand.proofs.Books.{Good}
 use Rattle.demand.proofs.Alone.{alone-from-empty}
@@ -24,14 +24,15 @@ use Rattle.mqarbset_book.specs.Mirror.{proper, readBook, writeBook}
 use Rattle.mqarbset_book.proofs.Kept.{written-proper, kept}
 use Rattle.mqarbset_answers.specs.Answers.{outcomeAsC}
 use Rattle.mqarbset_list.specs.Records.{recordsOf, recordsRefusals, recordsOutcome}
-use Rattle.demand_over_c.specs.Bytes.{partOf}
-use Rattle.demand_over_c.specs.LessonOverC.{TurnOverC, CallOverC, lists, listed, replyOverC, refusalOf, runOverC, LineOverC, logOverC, turnsOverC, emptyBytes}
+use Rattle.demand_over_c.specs.Bytes.{partOf, Whole}
+use Rattle.demand_over_c.specs.LessonOverC.{TurnOverC, CallOverC, lists, listed, replyOverC, refusalOf, nextOverC, logOverC, emptyBytes}
 use Rattle.demand_over_c.specs.ByValue.{asked, askedTurns, toldLines}
 use Rattle.demand_over_c.specs.DemandOverC.{bytesAfter, bookSaid, leftOverC, aloneOverC, AtMostFortyOverC, AtMostEightyOverC, TensAreSafeOverC, AsIfAloneOverC, Demand3OverC}
 use Rattle.demand_over_c.proofs.Mirrored.{written-back}
 use Rattle.demand_over_c.proofs.Step.{same-refusal}
 use Rattle.demand_over_c.proofs.Turns.{run-proper, run-says, log-told, left-told}
-use Rattle.demand_over_c.proofs.Parts.{same-part}
+use Rattle.demand_over_c.proofs.Parts.{written-whole, same-part}
+use Rattle.demand_over_c.proofs.Untouched.{others-untouched}
 
 -- the bytes that a lesson starts on say an empty book
 start-says : readBook emptyBytes ≡ emptyBook
@@ -51,6 +52,12 @@ module _ (ts : List TurnOverC) where
   -- the bytes are those of that book and no other
   pub bytes-written : bytesAfter ts ≡ writeBook (bookAfter (askedTurns ts))
   bytes-written = sym (written-back (bytesAfter ts) bytes-proper) ∙ ap writeBook bytes-say
+
+  -- and they have the sizes of their type
+  pub bytes-whole : Whole (bytesAfter ts)
+  bytes-whole =
+      subst (λ (m : MqBook). Whole m) (sym bytes-written)
+      (written-whole (bookAfter (askedTurns ts)) (lesson-good (askedTurns ts)))
 
 -- ---- (a) to (c)
 module _ (ts : List TurnOverC) where
@@ -151,3 +158,8 @@ demand-3-over-c ts =
       tens-are-safe = tens-are-safe ts;
       as-if-alone = λ i. as-if-alone i ts;
     }
+
+-- "Open, book, cancel and close change the named seat only": no turn touches a byte of another's seat
+pub turn-untouched : (ts : List TurnOverC) (i : ℕ) (c : CallOverC) (j : ℕ) → (j ≡ i → ⊥)
+    → partOf (nextOverC (bytesAfter ts) i c) j ≡ partOf (bytesAfter ts) j
+turn-untouched ts i c j apart = others-untouched (bytesAfter ts) (bytes-whole ts) i c j apart

@@ -4,3 +4,4 @@ pub mod Turns
 pub mod Parts
 pub mod Untouched
 pub mod DemandOverC
+pub mod Exports

@@ -1,23 +1,27 @@
 -- Where the bytes of one seat lie in a book: blocks of one width, one after the other. Cited by Untouched
 -- and DemandOverC. Assumes nothing.
 use mathlib.Core.Path.{_≡_, refl, sym, ap, _∙_}
-use mathlib.Core.List.{List, [], _∷_, _++_, map}
+use mathlib.Core.Bool.{Bool, true}
+use mathlib.Core.List.{List, [], _∷_, _++_}
 use Prim.Native.Nat.{ℕ, zero, suc, _+_, _*_}
 use native.Mathlib.Nat.{mul-zero, mul-suc}
 use native.Mathlib.Omega.{arith}
+use lib.Dec.{eqb}
 use lib.ListN.{length, take, drop, getD, length-append, length-map, List·getD-map}
 use lib.Seq.{take-at, drop-append-add}
-use Rattle.bookings.specs.declared.Booking.{Booking}
-use Rattle.seats.specs.declared.Seat.{Seat}
+use borrow.Author.Tests.{eq-eqb, eqb-true}
+use Rattle.laws.specs.Lists.{every}
+use Rattle.laws.proofs.Lists.{both}
 use Rattle.seats.specs.Seats.{closed}
 use Rattle.classbook.specs.declared.Book.{Book}
 use Rattle.classbook.specs.Book.{seatOf}
+use Rattle.demand.proofs.Seats.{every-place}
 use Rattle.demand.proofs.Books.{Good}
 use Rattle.mqarbset_book.specs.declared.MqBooking.{MqBooking}
 use Rattle.mqarbset_book.specs.declared.MqSeat.{MqSeat}
 use Rattle.mqarbset_book.specs.declared.MqBook.{MqBook}
 use Rattle.mqarbset_book.specs.Mirror.{writeBooking, writeSeat, writeBook}
-use Rattle.demand_over_c.specs.Bytes.{joined, bookingBytes, seatBytes, bookBytes, partOf}
+use Rattle.demand_over_c.specs.Bytes.{joined, bookingBytes, seatBytes, bookBytes, partOf, Whole}
 
 -- ---- blocks f x of w bytes, d standing where there is none
 module _ {A : Type 0} (f : A → List ℕ) (w : ℕ) (d : A) where
@@ -54,6 +58,12 @@ module _ {A : Type 0} (f : A → List ℕ) (w : ℕ) (d : A) where
       ∙ part-same l l' j (λ k. h (suc k)) (λ k. h' (suc k)) (omega (arith, s)) e
       ∙ ap (take w) (sym (drop-block (f y) (joined f l') j (h' 0)))
 
+-- what is passed at every place is passed by each
+every-shown : {A : Type 0} (p : A → Bool) (d : A) (l : List A) → ((j : ℕ) → p (getD l j d) ≡ true) → every p l ≡ true
+unfolding every
+every-shown p d [] h = refl
+every-shown p d (x ∷ l) h = both (p x) (every p l) (h 0) (every-shown p d l (λ j. h (suc j)))
+
 -- ---- seats of forty places
 row-length : (l : List MqBooking) → length (joined bookingBytes l) ≡ 8 * length l
 unfolding bookingBytes
@@ -62,9 +72,19 @@ row-length l = joined-length bookingBytes 8 none l (λ j. refl)
     none : MqBooking
     none = record { timeslot = 0; direction = 0; burst = 0; factor = 0; index = 0; user = 0; tfci = 0; tpc = 0 }
 
-pub seat-length : (s : MqSeat) → length (s .row) ≡ 40 → length (seatBytes s) ≡ 327
+seat-length : (s : MqSeat) → length (s .row) ≡ 40 → length (seatBytes s) ≡ 327
 unfolding seatBytes
 seat-length s h = omega (arith, row-length (s .row), h)
+
+-- the bytes of a book, all: as many as MQ_BOOK_BYTES of include/mqarbset.h says
+pub book-length : (m : MqBook) → Whole m → length (bookBytes m) ≡ 5232
+unfolding bookBytes writeSeat closed
+book-length m w = omega (arith, joined-length seatBytes 327 (writeSeat closed) (m .seats) wide, w .sixteen)
+  where
+    wide : Wide seatBytes 327 (writeSeat closed) (m .seats)
+    wide j =
+        seat-length (getD (m .seats) j (writeSeat closed))
+        (eqb-true _ 40 (every-place (λ (s : MqSeat). eqb (length (s .row)) 40) (m .seats) j (writeSeat closed) refl (w .forty)))
 
 -- the sixteen seats of a book that meets its sizes, as they are written
 module _ (b : Book) (g : Good b) where
@@ -72,15 +92,29 @@ module _ (b : Book) (g : Good b) where
   unfolding writeBook seatOf
   written-at j = List·getD-map writeSeat (b .seats) j closed
 
-  written-wide : Wide seatBytes 327 (writeSeat closed) (writeBook b .seats)
+  written-row : (j : ℕ) → length (writeSeat (seatOf b j) .row) ≡ 40
   unfolding writeSeat
+  written-row j = length-map (seatOf b j .row) writeBooking ∙ g .wide j
+
+  written-wide : Wide seatBytes 327 (writeSeat closed) (writeBook b .seats)
   written-wide j =
-      ap (λ (s : MqSeat). length (seatBytes s)) (written-at j)
-      ∙ seat-length (writeSeat (seatOf b j)) (length-map (seatOf b j .row) writeBooking ∙ g .wide j)
+      ap (λ (s : MqSeat). length (seatBytes s)) (written-at j) ∙ seat-length (writeSeat (seatOf b j)) (written-row j)
 
   written-sixteen : length (writeBook b .seats) ≡ 16
   unfolding writeBook
   written-sixteen = length-map (b .seats) writeSeat ∙ g .sixteen
+
+  -- written they have the sizes of their type
+  pub written-whole : Whole (writeBook b)
+  unfolding every
+  written-whole =
+      record {
+        sixteen = written-sixteen;
+        forty = every-shown (λ (s : MqSeat). eqb (length (s .row)) 40) (writeSeat closed) (writeBook b .seats) row;
+      }
+    where
+      row : (j : ℕ) → eqb (length (getD (writeBook b .seats) j (writeSeat closed) .row)) 40 ≡ true
+      row j = eq-eqb _ 40 (ap (λ (s : MqSeat). length (s .row)) (written-at j) ∙ written-row j)
 
 -- two such books with the same seat j have the same bytes there
 pub same-part : (b c : Book) → Good b → Good c → (j : ℕ) → seatOf b j ≡ seatOf c j → partOf (writeBook b) j ≡ partOf (writeBook c) j

@@ -4,20 +4,19 @@
 use mathlib.Core.Path.{_≡_, refl, sym, ap, _∙_}
 use mathlib.Core.Logic.{⊎-elim}
 use mathlib.Core.Bool.{Bool, true, false, cond}
-use mathlib.Core.List.{List, [], _∷_, _++_}
+use mathlib.Core.List.{List, _∷_, _++_}
 use Prim.Native.Nat.{ℕ, _*_}
-use lib.Dec.{eqb, ltb}
-use lib.ListN.{length, take, drop, replicate}
+use lib.Dec.{eqb}
+use lib.ListN.{length, drop}
 use lib.Seq.{take-append-seam}
 use borrow.Author.Tests.{eqb-true, eqb-false}
 use Rattle.laws.proofs.Lists.{by-cases}
-use Rattle.refusals.specs.Refusals.{Answer, refused, answered, _leaving_, firstOf, answer, after}
-use Rattle.refusals.proofs.First.{answer-refused, answer-answered, after-refused, after-answered}
+use Rattle.refusals.specs.Refusals.{refused, answered, _leaving_, firstOf, answer, after}
+use Rattle.refusals.proofs.First.{after-refused, after-answered}
 use Rattle.conditions.specs.Conditions.{tooShort}
 use Rattle.bookings.specs.declared.Booking.{Booking}
-use Rattle.seats.specs.Seats.{blank, bookings}
+use Rattle.seats.specs.Seats.{bookings}
 use Rattle.classbook.specs.declared.Book.{Book}
-use Rattle.classbook.specs.declared.BookAnswer.{BookAnswer}
 use Rattle.classbook.specs.Book.{seatOf}
 use Rattle.classbook.specs.Calls.{withBook, openAnswer, bookAnswer, cancelAnswer, seatRefusals, closeAnswer}
 use Rattle.listing.specs.Listing.{fewRecords, listRefusals, listOutcome}
@@ -31,7 +30,7 @@ use Rattle.mqarbset_book.specs.Calls.{handedBack, bookAnswerOverC}
 use Rattle.mqarbset_book.proofs.Kept.{written-proper, kept}
 use Rattle.mqarbset_book.proofs.Neither.{book-over}
 use Rattle.mqarbset_list.specs.Records.{recordsOf, recordsRefusals, recordsOutcome}
-use Rattle.demand_over_c.specs.LessonOverC.{CallOverC, opens, books, cancels, closes, lists, ReplyOverC, number, listed, replyOverC, refusalOf, nextOverC}
+use Rattle.demand_over_c.specs.LessonOverC.{CallOverC, opens, books, cancels, closes, lists, number, listed, replyOverC, refusalOf, nextOverC}
 use Rattle.demand_over_c.specs.ByValue.{recordsLent, asked, lentBy, told}
 
 -- ---- what is handed back for the bytes m, where n is the first refusal's number and made the book that the call makes

@@ -4,8 +4,7 @@ use mathlib.Core.Path.{_≡_, refl, sym, ap, _∙_}
 use mathlib.Core.Logic.{⊎-elim}
 use mathlib.Core.Bool.{Bool, true, false}
 use mathlib.Core.List.{List, [], _∷_, map}
-use Prim.Native.Nat.{ℕ, _*_}
-use native.Mathlib.Omega.{arith}
+use Prim.Native.Nat.{ℕ}
 use lib.Dec.{eqb}
 use lib.ListN.{length, getD, length-map}
 use borrow.Author.Tests.{eqb-true, eqb-false}
@@ -14,7 +13,6 @@ use Rattle.laws.proofs.Bools.{true-false}
 use Rattle.laws.proofs.Lists.{by-cases, both, hd, tl}
 use Rattle.refusals.specs.Refusals.{firstOf}
 use Rattle.refusals.proofs.First.{first-none}
-use Rattle.bookings.specs.declared.Booking.{Booking}
 use Rattle.seats.specs.declared.Seat.{Seat}
 use Rattle.seats.specs.Seats.{closed}
 use Rattle.classbook.specs.declared.Book.{Book}
@@ -28,9 +26,9 @@ use Rattle.demand.proofs.Own.{list-number}
 use Rattle.demand.proofs.Books.{Good, next-good, next-apart}
 use Rattle.mqarbset_book.specs.declared.MqSeat.{MqSeat}
 use Rattle.mqarbset_book.specs.declared.MqBook.{MqBook}
-use Rattle.mqarbset_book.specs.Mirror.{proper, readBooking, readSeat, readBook, writeSeat, writeBook}
+use Rattle.mqarbset_book.specs.Mirror.{proper, readBooking, readSeat, readBook, writeBook}
 use Rattle.mqarbset_book.proofs.Damaged.{damaged}
-use Rattle.demand_over_c.specs.Bytes.{joined, seatBytes, bookBytes, partOf, Whole}
+use Rattle.demand_over_c.specs.Bytes.{partOf, Whole}
 use Rattle.demand_over_c.specs.LessonOverC.{CallOverC, replyOverC, refusalOf, nextOverC}
 use Rattle.demand_over_c.specs.ByValue.{asked}
 use Rattle.demand_over_c.proofs.Mirrored.{written-back}

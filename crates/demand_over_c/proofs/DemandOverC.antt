@@ -1,12 +1,12 @@
--- Demand 3 over C: the theorem, for every finite sequence of C calls by all learners, in any order, from
--- the bytes of an empty book. What it says stands in specs/DemandOverC.antt. Cited by docs/.
+-- Demand 3 over C: the theorem, for every finite sequence of C calls by all learners, in any order,
+-- from the bytes of an empty book. What it says stands in specs/DemandOverC.antt. Cited by docs/.
 -- Assumes nothing.
 use mathlib.Core.Path.{_≡_, refl, sym, ap, subst, _∙_}
 use mathlib.Core.Bool.{Bool, true, not}
 use mathlib.Core.List.{List, [], _∷_, _++_}
 use Prim.Native.Nat.{ℕ, _*_, _≤_, _<_}
 use lib.ListN.{length, drop}
-use Rattle.refusals.specs.Refusals.{Outcome, _leaving_, firstOf, answer, after}
+use Rattle.refusals.specs.Refusals.{Refusals, Outcome, _leaving_, firstOf, answer, after}
 use Rattle.conditions.specs.Conditions.{tooShort}
 use Rattle.seats.specs.declared.Seat.{Seat}
 use Rattle.seats.specs.Seats.{bookings}
@@ -25,9 +25,12 @@ use Rattle.mqarbset_book.proofs.Kept.{written-proper, kept}
 use Rattle.mqarbset_answers.specs.Answers.{outcomeAsC}
 use Rattle.mqarbset_list.specs.Records.{recordsOf, recordsRefusals, recordsOutcome}
 use Rattle.demand_over_c.specs.Bytes.{partOf, Whole}
-use Rattle.demand_over_c.specs.LessonOverC.{TurnOverC, CallOverC, lists, listed, replyOverC, refusalOf, nextOverC, logOverC, emptyBytes}
+use Rattle.demand_over_c.specs.LessonOverC.{TurnOverC, CallOverC, lists, listed, replyOverC}
+use Rattle.demand_over_c.specs.LessonOverC.{refusalOf, nextOverC, logOverC, emptyBytes}
 use Rattle.demand_over_c.specs.ByValue.{asked, askedTurns, toldLines}
-use Rattle.demand_over_c.specs.DemandOverC.{bytesAfter, bookSaid, leftOverC, aloneOverC, AtMostFortyOverC, AtMostEightyOverC, TensAreSafeOverC, AsIfAloneOverC, Demand3OverC}
+use Rattle.demand_over_c.specs.DemandOverC.{bytesAfter, bookSaid, leftOverC, aloneOverC}
+use Rattle.demand_over_c.specs.DemandOverC.{AtMostFortyOverC, AtMostEightyOverC}
+use Rattle.demand_over_c.specs.DemandOverC.{TensAreSafeOverC, AsIfAloneOverC, Demand3OverC}
 use Rattle.demand_over_c.proofs.Mirrored.{written-back}
 use Rattle.demand_over_c.proofs.Step.{same-refusal}
 use Rattle.demand_over_c.proofs.Turns.{run-proper, run-says, log-told, left-told}
@@ -38,7 +41,7 @@ use Rattle.demand_over_c.proofs.Untouched.{others-untouched}
 start-says : readBook emptyBytes ≡ emptyBook
 start-says = kept emptyBook
 
--- ---- every lesson over C has, turn by turn, the replies of the lesson by value, and bytes that say its book
+-- ---- every lesson over C has the replies of the lesson by value, and bytes that say its book
 module _ (ts : List TurnOverC) where
   pub bytes-proper : proper (bytesAfter ts) ≡ true
   bytes-proper = run-proper ts emptyBytes (written-proper emptyBook)
@@ -69,31 +72,42 @@ module _ (ts : List TurnOverC) where
 
   at-most-eighty : AtMostEightyOverC ts
   unfolding AtMostEightyOverC AtMostEighty
-  at-most-eighty = subst (λ (b : Book). common b ≤ 80) (sym (bytes-say ts)) (demand-3 (askedTurns ts) .at-most-eighty)
+  at-most-eighty =
+      subst (λ (b : Book). common b ≤ 80) (sym (bytes-say ts))
+      (demand-3 (askedTurns ts) .at-most-eighty)
 
   tens-are-safe : TensAreSafeOverC ts
   unfolding TensAreSafeOverC TensAreSafe
   tens-are-safe i c few =
-      let safe = demand-3 (askedTurns ts) .tens-are-safe i (asked c) (subst (λ (b : Book). holds b i < 10) (bytes-say ts) few) in
+      let few-said = subst (λ (b : Book). holds b i < 10) (bytes-say ts) few in
+      let safe = demand-3 (askedTurns ts) .tens-are-safe i (asked c) few-said in
       (λ e. safe .0 (by-value ∙ e), λ e. safe .1 (by-value ∙ e))
     where
-      by-value : numberOf (reply (bookAfter (askedTurns ts)) i (asked c)) ≡ refusalOf (replyOverC (bytesAfter ts) i c)
-      by-value = ap (λ (b : Book). numberOf (reply b i (asked c))) (sym (bytes-say ts)) ∙ sym (same-refusal (bytesAfter ts) i c)
+      by-value : numberOf (reply (bookAfter (askedTurns ts)) i (asked c))
+          ≡ refusalOf (replyOverC (bytesAfter ts) i c)
+      by-value =
+          ap (λ (b : Book). numberOf (reply b i (asked c))) (sym (bytes-say ts))
+          ∙ sym (same-refusal (bytesAfter ts) i c)
 
 -- ---- (d)
 
 -- a list is the caller's own seat's, but for whether the book breaks its conditions
 module _ (i : ℕ) (lent : List ℕ) where
+  abbrev table : Bool → Seat → Refusals
+  table bad s = (11, tooShort 320 lent) ∷ (12, bad) ∷ (13, badSeat i) ∷ (14, not (s .live)) ∷ []
+
   abbrev own : Bool → Seat → Outcome ℕ (List ℕ)
   own bad s =
-      let n = firstOf ((11, tooShort 320 lent) ∷ (12, bad) ∷ (13, badSeat i) ∷ (14, not (s .live)) ∷ []) in
-      answer n (length (bookings s)) leaving after n lent (recordsOf (bookings s) ++ drop (8 * length (bookings s)) lent)
+      let n = firstOf (table bad s) in
+      let l = bookings s in
+      answer n (length l) leaving after n lent (recordsOf l ++ drop (8 * length l) lent)
 
   list-own : (b : Book) → recordsOutcome b i lent ≡ own (badBook b) (seatOf b i)
   unfolding recordsOutcome recordsRefusals seatRefusals notOpen
   list-own b = refl
 
-  same-outcome : (b c : Book) → Good b → Good c → seatOf b i ≡ seatOf c i → recordsOutcome b i lent ≡ recordsOutcome c i lent
+  same-outcome : (b c : Book) → Good b → Good c → seatOf b i ≡ seatOf c i
+      → recordsOutcome b i lent ≡ recordsOutcome c i lent
   unfolding badBook
   same-outcome b c g h e =
       list-own b
@@ -119,25 +133,42 @@ module _ (i : ℕ) (ts : List TurnOverC) where
       ∙ ap (toldLines alone) (demand-3 vs .as-if-alone i .same-answers)
       ∙ sym (left-told i ts emptyBytes emptyBook start-says .same-lines)
 
-  same-seat : seatOf (bookAfter (askedTurns alone)) i ≡ seatOf (bookAfter vs) i
-  same-seat = ap (λ (us : List Turn). seatOf (bookAfter us) i) own-turns ∙ alone-from-empty i vs .seat
+  -- the books of both lessons by value
+  abbrev lone : Book
+  lone = bookAfter (askedTurns alone)
+
+  abbrev crowd : Book
+  crowd = bookAfter vs
+
+  lone-good : Good lone
+  lone-good = lesson-good (askedTurns alone)
+
+  crowd-good : Good crowd
+  crowd-good = lesson-good vs
+
+  same-seat : seatOf lone i ≡ seatOf crowd i
+  same-seat =
+      ap (λ (us : List Turn). seatOf (bookAfter us) i) own-turns ∙ alone-from-empty i vs .seat
 
   said-seat : seatOf (bookSaid alone) i ≡ seatOf (bookSaid ts) i
   said-seat =
-      ap (λ (b : Book). seatOf b i) (bytes-say alone) ∙ same-seat ∙ ap (λ (b : Book). seatOf b i) (sym (bytes-say ts))
+      ap (λ (b : Book). seatOf b i) (bytes-say alone)
+      ∙ same-seat
+      ∙ ap (λ (b : Book). seatOf b i) (sym (bytes-say ts))
 
   same-bytes : partOf (bytesAfter alone) i ≡ partOf (bytesAfter ts) i
   same-bytes =
       ap (λ (m : MqBook). partOf m i) (bytes-written alone)
-      ∙ same-part (bookAfter (askedTurns alone)) (bookAfter vs) (lesson-good (askedTurns alone)) (lesson-good vs) i same-seat
+      ∙ same-part lone crowd lone-good crowd-good i same-seat
       ∙ ap (λ (m : MqBook). partOf m i) (sym (bytes-written ts))
 
-  same-list : (lent : List ℕ) → replyOverC (bytesAfter alone) i (lists lent) ≡ replyOverC (bytesAfter ts) i (lists lent)
+  same-list : (lent : List ℕ)
+      → replyOverC (bytesAfter alone) i (lists lent) ≡ replyOverC (bytesAfter ts) i (lists lent)
   unfolding replyOverC
   same-list lent =
       ap (λ (b : Book). listed (outcomeAsC (recordsOutcome b i lent))) (bytes-say alone)
       ∙ ap (λ o. listed (outcomeAsC o))
-      (same-outcome i lent (bookAfter (askedTurns alone)) (bookAfter vs) (lesson-good (askedTurns alone)) (lesson-good vs) same-seat)
+      (same-outcome i lent lone crowd lone-good crowd-good same-seat)
       ∙ ap (λ (b : Book). listed (outcomeAsC (recordsOutcome b i lent))) (sym (bytes-say ts))
 
   as-if-alone : AsIfAloneOverC i ts
@@ -159,7 +190,7 @@ demand-3-over-c ts =
       as-if-alone = λ i. as-if-alone i ts;
     }
 
--- "Open, book, cancel and close change the named seat only": no turn touches a byte of another's seat
+-- Open, book, cancel and close change the named seat only: no turn touches a byte of another's
 pub turn-untouched : (ts : List TurnOverC) (i : ℕ) (c : CallOverC) (j : ℕ) → (j ≡ i → ⊥)
     → partOf (nextOverC (bytesAfter ts) i c) j ≡ partOf (bytesAfter ts) j
 turn-untouched ts i c j apart = others-untouched (bytesAfter ts) (bytes-whole ts) i c j apart

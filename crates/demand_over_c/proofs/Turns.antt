@@ -1,5 +1,5 @@
--- A whole lesson over C beside the lesson by value that it comes to: the same replies and the same book,
--- turn by turn, and the same lines left for a learner. Cited by DemandOverC. Assumes nothing.
+-- A whole lesson over C beside the lesson by value that it comes to: the same replies and the same
+-- book, turn by turn, and the same lines left for a learner. Cited by DemandOverC. Assumes nothing.
 use mathlib.Core.Path.{_≡_, refl, ap, _∙_}
 use mathlib.Core.Logic.{⊎-elim}
 use mathlib.Core.Bool.{true, false, not, _&&_}
@@ -8,17 +8,20 @@ use Prim.Native.Nat.{ℕ}
 use lib.Dec.{eqb}
 use Rattle.laws.proofs.Lists.{by-cases}
 use Rattle.classbook.specs.declared.Book.{Book}
-use Rattle.demand.specs.Lesson.{reply, numberOf, next, runThrough, Line, log, turns}
+use Rattle.demand.specs.Lesson.{Reply, reply, numberOf, next, runThrough, Line, log, turns}
 use Rattle.demand.specs.Demand.{stays, kept}
 use Rattle.mqarbset_book.specs.declared.MqBook.{MqBook}
 use Rattle.mqarbset_book.specs.Mirror.{proper, readBook}
-use Rattle.demand_over_c.specs.LessonOverC.{TurnOverC, ReplyOverC, replyOverC, refusalOf, nextOverC, runOverC, LineOverC, logOverC, turnsOverC}
+use Rattle.demand_over_c.specs.LessonOverC.{TurnOverC, ReplyOverC, replyOverC, refusalOf}
+use Rattle.demand_over_c.specs.LessonOverC.{nextOverC, runOverC, LineOverC, logOverC}
+use Rattle.demand_over_c.specs.LessonOverC.{turnsOverC}
 use Rattle.demand_over_c.specs.ByValue.{asked, askedTurn, askedTurns, lentBy, told, toldLines}
 use Rattle.demand_over_c.specs.DemandOverC.{staysOverC, keptOverC}
 use Rattle.demand_over_c.proofs.Step.{reads-next, proper-next, replies, same-refusal}
 
 -- proper bytes stay proper
-pub run-proper : (ts : List TurnOverC) (m : MqBook) → proper m ≡ true → proper (runOverC m ts) ≡ true
+pub run-proper : (ts : List TurnOverC) (m : MqBook)
+    → proper m ≡ true → proper (runOverC m ts) ≡ true
 unfolding runOverC
 run-proper [] m p = p
 run-proper (t ∷ ts) m p = run-proper ts _ (proper-next m (t .seat) (t .call) p)
@@ -32,17 +35,35 @@ module _ (m : MqBook) (b : Book) (says : readBook m ≡ b) (t : TurnOverC) where
   abbrev b' : Book
   b' = next b (t .seat) (asked (t .call))
 
-  turn-says : readBook m' ≡ b'
-  turn-says = reads-next m (t .seat) (t .call) ∙ ap (λ (c : Book). next c (t .seat) (asked (t .call))) says
+  -- with the replies over C and by value
+  abbrev replyC : ReplyOverC
+  replyC = replyOverC m (t .seat) (t .call)
 
-  turn-replies : replyOverC m (t .seat) (t .call) ≡ told (lentBy (t .call)) (reply b (t .seat) (asked (t .call)))
+  abbrev replyV : Reply
+  replyV = reply b (t .seat) (asked (t .call))
+
+  turn-says : readBook m' ≡ b'
+  turn-says =
+      reads-next m (t .seat) (t .call)
+      ∙ ap (λ (c : Book). next c (t .seat) (asked (t .call))) says
+
+  turn-replies : replyC ≡ told (lentBy (t .call)) replyV
   turn-replies =
       replies m (t .seat) (t .call)
       ∙ ap (λ (c : Book). told (lentBy (t .call)) (reply c (t .seat) (asked (t .call)))) says
 
-  turn-refusal : refusalOf (replyOverC m (t .seat) (t .call)) ≡ numberOf (reply b (t .seat) (asked (t .call)))
+  turn-refusal : refusalOf replyC ≡ numberOf replyV
   turn-refusal =
-      same-refusal m (t .seat) (t .call) ∙ ap (λ (c : Book). numberOf (reply c (t .seat) (asked (t .call)))) says
+      same-refusal m (t .seat) (t .call)
+      ∙ ap (λ (c : Book). numberOf (reply c (t .seat) (asked (t .call)))) says
+
+  -- and the line of the log
+  turn-line : (ls us : List LineOverC) → ls ≡ us
+      → record { turn = t; reply = replyC } ∷ ls
+      ≡ record { turn = t; reply = told (lentBy (t .call)) replyV } ∷ us
+  turn-line ls us e =
+      ap (λ (r : ReplyOverC). record { turn = t; reply = r } ∷ ls) turn-replies
+      ∙ ap (λ (l : List LineOverC). record { turn = t; reply = told (lentBy (t .call)) replyV } ∷ l) e
 
 -- the book that the bytes say after a lesson is that of the lesson by value
 pub run-says : (ts : List TurnOverC) (m : MqBook) (b : Book) → readBook m ≡ b
@@ -57,9 +78,7 @@ pub log-told : (ts : List TurnOverC) (m : MqBook) (b : Book) → readBook m ≡ 
 unfolding logOverC log toldLines askedTurns askedTurn
 log-told [] m b e = refl
 log-told (t ∷ ts) m b e =
-    ap (λ (r : ReplyOverC). record { turn = t; reply = r } ∷ logOverC (m' m b e t) ts) (turn-replies m b e t)
-    ∙ ap (λ (ls : List LineOverC). record { turn = t; reply = told (lentBy (t .call)) (reply b (t .seat) (asked (t .call))) } ∷ ls)
-    (log-told ts (m' m b e t) (b' m b e t) (turn-says m b e t))
+    turn-line m b e t _ _ (log-told ts (m' m b e t) (b' m b e t) (turn-says m b e t))
 
 -- ---- what is left of a log for learner i
 module _ (i : ℕ) where
@@ -76,10 +95,17 @@ module _ (i : ℕ) where
 
   module _ (m : MqBook) (b : Book) (e : readBook m ≡ b) (t : TurnOverC) (ts : List TurnOverC) where
     abbrev lineC : LineOverC
-    lineC = record { turn = t; reply = replyOverC m (t .seat) (t .call) }
+    lineC = record { turn = t; reply = replyC m b e t }
 
     abbrev lineV : Line
-    lineV = record { turn = askedTurn t; reply = reply b (t .seat) (asked (t .call)) }
+    lineV = record { turn = askedTurn t; reply = replyV m b e t }
+
+    -- what is left of the later turns
+    abbrev laterC : List LineOverC
+    laterC = leftC (m' m b e t) ts
+
+    abbrev laterV : List Line
+    laterV = leftV (b' m b e t) ts
 
     same-stays : staysOverC i lineC ≡ stays i lineV
     unfolding staysOverC stays askedTurn
@@ -87,20 +113,29 @@ module _ (i : ℕ) where
 
     strikes : stays i lineV ≡ false → Left (m' m b e t) (b' m b e t) ts → Left m b (t ∷ ts)
     unfolding logOverC log askedTurns askedTurn turns turnsOverC kept keptOverC toldLines
-    strikes f r = record { same-turns = rw (same-stays, f) (r .same-turns); same-lines = rw (same-stays, f) (r .same-lines) }
+    strikes f r =
+        record {
+          same-turns = rw (same-stays, f) (r .same-turns);
+          same-lines = rw (same-stays, f) (r .same-lines);
+        }
 
     keeps : stays i lineV ≡ true → Left (m' m b e t) (b' m b e t) ts → Left m b (t ∷ ts)
     unfolding logOverC log askedTurns askedTurn turns turnsOverC kept keptOverC toldLines
-    keeps f r = record { same-turns = rw (same-stays, f, r .same-turns) refl; same-lines = rw (same-stays, f) lines }
+    keeps f r =
+        record {
+          same-turns = rw (same-stays, f, r .same-turns) refl;
+          same-lines = rw (same-stays, f) lines;
+        }
       where
-        lines : lineC ∷ leftC (m' m b e t) ts ≡ toldLines (t ∷ turnsOverC (leftC (m' m b e t) ts)) (lineV ∷ leftV (b' m b e t) ts)
-        lines =
-            ap (λ (a : ReplyOverC). record { turn = t; reply = a } ∷ leftC (m' m b e t) ts) (turn-replies m b e t)
-            ∙ ap (λ (ls : List LineOverC). record { turn = t; reply = told (lentBy (t .call)) (lineV .reply) } ∷ ls) (r .same-lines)
+        lines : lineC ∷ laterC ≡ toldLines (t ∷ turnsOverC laterC) (lineV ∷ laterV)
+        lines = turn-line m b e t _ _ (r .same-lines)
 
   pub left-told : (ts : List TurnOverC) (m : MqBook) (b : Book) → readBook m ≡ b → Left m b ts
   unfolding logOverC log askedTurns turns turnsOverC kept keptOverC toldLines
   left-told [] m b e = record { same-turns = refl; same-lines = refl }
   left-told (t ∷ ts) m b e =
       let r = left-told ts (m' m b e t) (b' m b e t) (turn-says m b e t) in
-      ⊎-elim (λ f. keeps m b e t ts f r) (λ f. strikes m b e t ts f r) (by-cases (stays i (lineV m b e t ts)))
+      ⊎-elim
+      (λ f. keeps m b e t ts f r)
+      (λ f. strikes m b e t ts f r)
+      (by-cases (stays i (lineV m b e t ts)))

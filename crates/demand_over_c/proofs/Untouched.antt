@@ -1,5 +1,5 @@
--- What a call over C does not touch, whatever the bytes: every byte of every other seat; a refused call
--- leaves every byte (`refused-leaves` of Step). Cited by docs/. Assumes nothing.
+-- What a call over C does not touch, whatever the bytes: every byte of every other seat; a refused
+-- call leaves every byte (`refused-leaves` of Step). Cited by DemandOverC. Assumes nothing.
 use mathlib.Core.Path.{_≡_, refl, sym, ap, _∙_}
 use mathlib.Core.Logic.{⊎-elim}
 use mathlib.Core.Bool.{Bool, true, false}
@@ -56,20 +56,23 @@ module _ (m : MqBook) (p : proper m ≡ true) (w : Whole m) where
   abbrev forty : Seat → Bool
   forty s = eqb (length (s .row)) 40
 
-  rows-forty : (l : List MqSeat) → every (λ (s : MqSeat). eqb (length (s .row)) 40) l ≡ true → every forty (map readSeat l) ≡ true
+  abbrev fortyC : MqSeat → Bool
+  fortyC s = eqb (length (s .row)) 40
+
+  rows-forty : (l : List MqSeat) → every fortyC l ≡ true → every forty (map readSeat l) ≡ true
   unfolding every readSeat
   rows-forty [] e = refl
-  rows-forty (s ∷ l) e = both _ _ row (rows-forty l (tl (λ (s : MqSeat). eqb (length (s .row)) 40) s l e))
+  rows-forty (s ∷ l) e = both _ _ row (rows-forty l (tl fortyC s l e))
     where
       row : forty (readSeat s) ≡ true
       row =
-          ap (λ (n : ℕ). eqb n 40) (length-map (s .row) readBooking)
-          ∙ hd (λ (s : MqSeat). eqb (length (s .row)) 40) s l e
+          ap (λ (n : ℕ). eqb n 40) (length-map (s .row) readBooking) ∙ hd fortyC s l e
 
   said-wide : (j : ℕ) → length (seatOf (readBook m) j .row) ≡ 40
   unfolding seatOf closed
   said-wide j =
-      let e = every-place forty (map readSeat (m .seats)) j closed refl (rows-forty (m .seats) (w .forty)) in
+      let rows = rows-forty (m .seats) (w .forty) in
+      let e = every-place forty (map readSeat (m .seats)) j closed refl rows in
       ap (λ (l : List Seat). length (getD l j closed .row)) said-seats ∙ eqb-true _ 40 e
 
   said-good : bookOk (readBook m) ≡ true → Good (readBook m)
@@ -82,12 +85,17 @@ module _ (m : MqBook) (p : proper m ≡ true) (w : Whole m) where
 
 -- a call over C leaves every byte of every other seat
 module _ (m : MqBook) (w : Whole m) (i : ℕ) (c : CallOverC) (j : ℕ) (apart : j ≡ i → ⊥) where
-  accepted : refusalOf (replyOverC m i c) ≡ 0 → proper m ≡ true → partOf (nextOverC m i c) j ≡ partOf m j
+  said-ok : refusalOf (replyOverC m i c) ≡ 0 → bookOk (readBook m) ≡ true
+  said-ok z = accepted-ok (readBook m) i (asked c) (sym (same-refusal m i c) ∙ z)
+
+  accepted : refusalOf (replyOverC m i c) ≡ 0 → proper m ≡ true
+      → partOf (nextOverC m i c) j ≡ partOf m j
   accepted z p =
       let b = readBook m in
       let after = next b i (asked c) in
-      let g = said-good m p w (accepted-ok b i (asked c) (sym (same-refusal m i c) ∙ z)) in
-      ap (λ (n : MqBook). partOf n j) (sym (written-back (nextOverC m i c) (proper-next m i c p)) ∙ ap writeBook (reads-next m i c))
+      let g = said-good m p w (said-ok z) in
+      ap (λ (n : MqBook). partOf n j) (sym (written-back (nextOverC m i c) (proper-next m i c p)))
+      ∙ ap (λ (d : Book). partOf (writeBook d) j) (reads-next m i c)
       ∙ same-part after b (next-good b i (asked c) g) g j (next-apart b i (asked c) j apart)
       ∙ ap (λ (n : MqBook). partOf n j) (written-back m p)
 
@@ -95,11 +103,12 @@ module _ (m : MqBook) (w : Whole m) (i : ℕ) (c : CallOverC) (j : ℕ) (apart :
   refused h = ap (λ (n : MqBook). partOf n j) (refused-leaves m i c h)
 
   damaged-refused : proper m ≡ false → refusalOf (replyOverC m i c) ≡ 0 → ⊥
-  damaged-refused f z = true-false (sym (accepted-ok (readBook m) i (asked c) (sym (same-refusal m i c) ∙ z)) ∙ damaged m f)
+  damaged-refused f z = true-false (sym (said-ok z) ∙ damaged m f)
 
   pub others-untouched : partOf (nextOverC m i c) j ≡ partOf m j
   others-untouched =
       ⊎-elim
-      (λ t. ⊎-elim (accepted (eqb-true _ 0 t)) (λ f. refused (damaged-refused f)) (by-cases (proper m)))
+      (λ t.
+      ⊎-elim (accepted (eqb-true _ 0 t)) (λ f. refused (damaged-refused f)) (by-cases (proper m)))
       (λ f. refused (eqb-false _ 0 f))
       (by-cases (eqb (refusalOf (replyOverC m i c)) 0))

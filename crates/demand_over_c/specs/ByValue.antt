@@ -1,6 +1,6 @@
--- The lesson by value (demand/specs/Lesson.antt) that a lesson over C comes to, turn by turn, and how
--- its replies look over C. No reader of specs/DemandOverC.antt has to believe it. Cited by the theorems
--- of proofs/Step.antt and proofs/Turns.antt. Assumes nothing.
+-- The lesson by value (demand/specs/Lesson.antt) that a lesson over C comes to, turn by turn, and
+-- how its replies look over C. No reader of specs/DemandOverC.antt has to believe it. Cited by the
+-- theorems of proofs/Step.antt and proofs/Turns.antt. Assumes nothing.
 use mathlib.Core.Bool.{cond}
 use mathlib.Core.List.{List, [], _∷_, _++_, map}
 use Prim.Native.Nat.{ℕ, _*_}
@@ -15,7 +15,8 @@ use Rattle.mqarbset_answers.specs.Answers.{outcomeAsC}
 use Rattle.mqarbset_book.specs.Mirror.{readDirection}
 use Rattle.mqarbset_book.specs.Inside.{factorBeside}
 use Rattle.mqarbset_list.specs.Records.{recordsOf}
-use Rattle.demand_over_c.specs.LessonOverC.{CallOverC, opens, books, cancels, closes, lists, TurnOverC, ReplyOverC, number, listed, LineOverC}
+use Rattle.demand_over_c.specs.LessonOverC.{CallOverC, opens, books, cancels, closes, lists}
+use Rattle.demand_over_c.specs.LessonOverC.{TurnOverC, ReplyOverC, number, listed, LineOverC}
 
 -- the records that a list by value is lent: forty, where the lent bytes have room for them
 unfoldable pub recordsLent : List ℕ → List Booking
@@ -55,8 +56,8 @@ lentBy (cancels timeslot factor index) = []
 lentBy closes = []
 lentBy (lists lent) = lent
 
--- a reply by value, over C: the same number; of a list the same count, and the bookings that it wrote as
--- records of eight bytes at the front of the lent bytes
+-- a reply by value, over C: the same number; of a list the same count, and the bookings that it
+-- wrote as records of eight bytes at the front of the lent bytes
 unfoldable pub told : List ℕ → Reply → ReplyOverC
 told lent (value.number n) = number n
 told lent (value.listed (refused n leaving records)) = listed (outcomeAsC (refused n leaving lent))
@@ -67,4 +68,5 @@ told lent (value.listed (answered n leaving records)) =
 unfoldable pub toldLines : List TurnOverC → List Line → List LineOverC
 toldLines [] ls = []
 toldLines (t ∷ ts) [] = []
-toldLines (t ∷ ts) (l ∷ ls) = record { turn = t; reply = told (lentBy (t .call)) (l .reply) } ∷ toldLines ts ls
+toldLines (t ∷ ts) (l ∷ ls) =
+    record { turn = t; reply = told (lentBy (t .call)) (l .reply) } ∷ toldLines ts ls

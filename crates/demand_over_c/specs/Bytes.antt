@@ -1,5 +1,6 @@
--- A book over C byte by byte, in the order in which memory holds it: its structs are of bytes only, so
--- no gap lies between two. Cited by specs/DemandOverC.antt and proofs/Untouched.antt. Assumes nothing.
+-- A book over C byte by byte, in the order in which memory holds it: its structs are of bytes only,
+-- so no gap lies between two. Cited by specs/DemandOverC.antt and proofs/Untouched.antt.
+-- Assumes nothing.
 use mathlib.Core.Path.{_≡_}
 use mathlib.Core.Bool.{true}
 use mathlib.Core.List.{List, [], _∷_, _++_}
@@ -36,7 +37,7 @@ bookBytes m = joined seatBytes (m .seats)
 unfoldable pub partOf : MqBook → ℕ → List ℕ
 partOf m j = take 327 (drop (327 * j) (bookBytes m))
 
--- what the type of a book says of each that a caller can hand in: sixteen seats, each of forty places
+-- what its type says of every book that a caller can hand in: sixteen seats, each of forty places
 pub record Whole (m : MqBook) : Type 0 where
   pub sixteen : length (m .seats) ≡ 16
   pub forty : every (λ (s : MqSeat). eqb (length (s .row)) 40) (m .seats) ≡ true

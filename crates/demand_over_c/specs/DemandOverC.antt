@@ -1,6 +1,6 @@
--- Demand 3 over C: what holds after every lesson over C, that is, every finite sequence of C calls by the
--- sixteen learners, in any order, from the bytes of an empty book. Proved in proofs/DemandOverC.antt.
--- Assumes nothing.
+-- Demand 3 over C: what holds after every lesson over C, that is, every finite sequence of C calls
+-- by the sixteen learners, in any order, from the bytes of an empty book. Proved in
+-- proofs/DemandOverC.antt. Assumes nothing.
 use mathlib.Core.Path.{_≡_}
 use mathlib.Core.Bool.{Bool, true, cond, not, _&&_}
 use mathlib.Core.List.{List, [], _∷_}
@@ -12,7 +12,9 @@ use Rattle.demand.specs.Demand.{holds}
 use Rattle.mqarbset_book.specs.declared.MqBook.{MqBook}
 use Rattle.mqarbset_book.specs.Mirror.{proper, readBook}
 use Rattle.demand_over_c.specs.Bytes.{partOf}
-use Rattle.demand_over_c.specs.LessonOverC.{CallOverC, lists, TurnOverC, replyOverC, refusalOf, runOverC, LineOverC, logOverC, turnsOverC, emptyBytes}
+use Rattle.demand_over_c.specs.LessonOverC.{CallOverC, lists, TurnOverC, replyOverC}
+use Rattle.demand_over_c.specs.LessonOverC.{refusalOf, runOverC, LineOverC, logOverC}
+use Rattle.demand_over_c.specs.LessonOverC.{turnsOverC, emptyBytes}
 
 -- the bytes after a lesson
 abbrev pub bytesAfter : List TurnOverC → MqBook
@@ -24,7 +26,8 @@ bookSaid ts = readBook (bytesAfter ts)
 
 -- (a) "nobody holds more than 40 bookings"; and the seat's count is what its plan lists
 unfoldable pub AtMostFortyOverC : List TurnOverC → Type 0
-AtMostFortyOverC ts = (i : ℕ) → (holds (bookSaid ts) i ≤ 40) × (seatOf (bookSaid ts) i .count ≡ holds (bookSaid ts) i)
+AtMostFortyOverC ts =
+    (i : ℕ) → (holds (bookSaid ts) i ≤ 40) × (seatOf (bookSaid ts) i .count ≡ holds (bookSaid ts) i)
 
 -- (b) "at most 80 in all lie beyond the first tens"
 unfoldable pub AtMostEightyOverC : List TurnOverC → Type 0
@@ -34,7 +37,8 @@ AtMostEightyOverC ts = common (bookSaid ts) ≤ 80
 unfoldable pub TensAreSafeOverC : List TurnOverC → Type 0
 TensAreSafeOverC ts =
     (i : ℕ) (c : CallOverC) → holds (bookSaid ts) i < 10
-    → (refusalOf (replyOverC (bytesAfter ts) i c) ≡ 19 → ⊥) × (refusalOf (replyOverC (bytesAfter ts) i c) ≡ 20 → ⊥)
+    → (refusalOf (replyOverC (bytesAfter ts) i c) ≡ 19 → ⊥)
+    × (refusalOf (replyOverC (bytesAfter ts) i c) ≡ 20 → ⊥)
 
 -- (d) "with a learner's own calls that were refused 20 struck out"
 unfoldable pub staysOverC : ℕ → LineOverC → Bool
@@ -52,15 +56,16 @@ leftOverC i ts = keptOverC i (logOverC emptyBytes ts)
 abbrev pub aloneOverC : ℕ → List TurnOverC → List TurnOverC
 aloneOverC i ts = turnsOverC (leftOverC i ts)
 
--- "the rest of that learner's calls, made alone on an empty book, get the same answers": every number,
--- and of every list the struct and the lent bytes; "and leave the same plan": the same bytes of the
--- seat, and so the same list afterwards, whatever is lent for it
+-- "the rest of that learner's calls, made alone on an empty book, get the same answers": every
+-- number, and of every list the struct and the lent bytes; "and leave the same plan": the same
+-- bytes of the seat too, and the same list afterwards, whatever is lent for it
 pub record AsIfAloneOverC (i : ℕ) (ts : List TurnOverC) : Type 0 where
   pub same-answers : logOverC emptyBytes (aloneOverC i ts) ≡ leftOverC i ts
   pub same-plan : planOf (seatOf (bookSaid (aloneOverC i ts)) i) ≡ planOf (seatOf (bookSaid ts) i)
   pub same-bytes : partOf (bytesAfter (aloneOverC i ts)) i ≡ partOf (bytesAfter ts) i
   pub same-list : (lent : List ℕ)
-      → replyOverC (bytesAfter (aloneOverC i ts)) i (lists lent) ≡ replyOverC (bytesAfter ts) i (lists lent)
+      → replyOverC (bytesAfter (aloneOverC i ts)) i (lists lent)
+      ≡ replyOverC (bytesAfter ts) i (lists lent)
 
 -- Demand 3, of one lesson over C; its bytes are proper, so that what they say is what they hold
 pub record Demand3OverC (ts : List TurnOverC) : Type 0 where

@@ -1,6 +1,6 @@
--- A lesson over C: learners call on one book, which is bytes in the caller's memory, in any order and
--- as often as they like. What a call answers and leaves is what the export of its name promises
--- (mqarbset/src/book.rt); proofs/Exports.antt has that it is. Cited by specs/DemandOverC.antt.
+-- A lesson over C: learners call on one book, which is bytes in the caller's memory, in any order
+-- and as often as they like. What a call answers and leaves is what its export promises
+-- (mqarbset/src/book.rt); proofs/Exports.antt shows that. Cited by specs/DemandOverC.antt.
 -- Assumes nothing.
 use mathlib.Core.List.{List, [], _∷_, map}
 use Prim.Native.Nat.{ℕ}
@@ -14,7 +14,7 @@ use Rattle.mqarbset_book.specs.Mirror.{readBook, writeBook}
 use Rattle.mqarbset_book.specs.Calls.{handedBack, bookAnswerOverC}
 use Rattle.mqarbset_list.specs.Records.{recordsOutcome}
 
--- what may be asked, with every argument but the book and the seat: numbers, and for a list lent bytes
+-- what may be asked, with every argument but the book and the seat; a list is lent bytes
 pub data CallOverC : Type 0 where
   opens : (cell case k long short : ℕ) → CallOverC
   books : (timeslot direction burst factor index user tfci tpc : ℕ) → CallOverC
@@ -30,14 +30,17 @@ pub record TurnOverC : Type 0 where
 -- what mq_open_value, mq_book_value, mq_cancel_value and mq_close_value hand back for the bytes m
 module _ (m : MqBook) (seat : ℕ) where
   abbrev pub openOverC : ℕ → ℕ → ℕ → ℕ → ℕ → MqBookAnswer
-  openOverC cell case k long short = handedBack m (openAnswer (readBook m) seat cell case k long short)
+  openOverC cell case k long short =
+      handedBack m (openAnswer (readBook m) seat cell case k long short)
 
   abbrev pub bookOverC : ℕ → ℕ → ℕ → ℕ → ℕ → ℕ → ℕ → ℕ → MqBookAnswer
   bookOverC timeslot direction burst factor index user tfci tpc =
-      handedBack m (bookAnswerOverC (readBook m) seat timeslot direction burst factor index user tfci tpc)
+      let b = readBook m in
+      handedBack m (bookAnswerOverC b seat timeslot direction burst factor index user tfci tpc)
 
   abbrev pub cancelOverC : ℕ → ℕ → ℕ → MqBookAnswer
-  cancelOverC timeslot factor index = handedBack m (cancelAnswer (readBook m) seat timeslot factor index)
+  cancelOverC timeslot factor index =
+      handedBack m (cancelAnswer (readBook m) seat timeslot factor index)
 
   abbrev pub closeOverC : MqBookAnswer
   closeOverC = handedBack m (closeAnswer (readBook m) seat)
@@ -46,16 +49,18 @@ module _ (m : MqBook) (seat : ℕ) where
   abbrev pub listOverC : List ℕ → MqAnswer × List ℕ
   listOverC lent = outcomeAsC (recordsOutcome (readBook m) seat lent)
 
--- what the learner gets: the refusal's number, or 0; of a list the struct, and the lent bytes afterwards
+-- what the learner gets: the refusal's number, or 0; of a list the struct and the lent bytes after it
 pub data ReplyOverC : Type 0 where
   number : ℕ → ReplyOverC
   listed : MqAnswer × List ℕ → ReplyOverC
 
 unfoldable pub replyOverC : MqBook → ℕ → CallOverC → ReplyOverC
-replyOverC m seat (opens cell case k long short) = number (openOverC m seat cell case k long short .refusal)
+replyOverC m seat (opens cell case k long short) =
+    number (openOverC m seat cell case k long short .refusal)
 replyOverC m seat (books timeslot direction burst factor index user tfci tpc) =
     number (bookOverC m seat timeslot direction burst factor index user tfci tpc .refusal)
-replyOverC m seat (cancels timeslot factor index) = number (cancelOverC m seat timeslot factor index .refusal)
+replyOverC m seat (cancels timeslot factor index) =
+    number (cancelOverC m seat timeslot factor index .refusal)
 replyOverC m seat closes = number (closeOverC m seat .refusal)
 replyOverC m seat (lists lent) = listed (listOverC m seat lent)
 
@@ -86,7 +91,8 @@ pub record LineOverC : Type 0 where
 unfoldable pub logOverC : MqBook → List TurnOverC → List LineOverC
 logOverC m [] = []
 logOverC m (t ∷ ts) =
-    record { turn = t; reply = replyOverC m (t .seat) (t .call) } ∷ logOverC (nextOverC m (t .seat) (t .call)) ts
+    record { turn = t; reply = replyOverC m (t .seat) (t .call) } ∷
+    logOverC (nextOverC m (t .seat) (t .call)) ts
 
 -- the turns that a log tells of
 unfoldable pub turnsOverC : List LineOverC → List TurnOverC

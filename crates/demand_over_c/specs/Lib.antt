@@ -1,0 +1,4 @@
+pub mod Bytes
+pub mod LessonOverC
+pub mod ByValue
+pub mod DemandOverC

@@ -1,5 +1,5 @@
-// docs/LESSONS.md, `list SEAT`: forty records are lent to document 01's list, and what it replied and
-// left in them is handed on by value.
+// docs/LESSONS.md, `list SEAT`: forty records are lent to document 01's list, and what it replied
+// and left in them is handed on by value.
 ghost use mathlib.Core.Path.{_≡_};
 ghost use lib.ListN.{replicate};
 ghost use Rattle.seats.specs.Seats.{blank};

@@ -1,11 +1,7 @@
--- `lesson_list::by_value` meets its contract: a case each.
+-- `lesson_list::by_value` meets its contract: case by case.
 -- Assumes nothing.
-use mathlib.Core.Path.{_≡_, refl, sym, ap, _∙_}
-use mathlib.Core.List.{List}
-use Prim.Native.Nat.{ℕ}
+use mathlib.Core.Path.{refl}
 use borrow.Author.Needs.{needs}
-use Rattle.bookings.specs.declared.Booking.{Booking}
-use Rattle.listing.specs.declared.ListReply.{ListReply}
 use Rattle.lesson_list.specs.Inside.{byValue}
 use Rattle.lesson_list.proofs.by_value.Statement.{statement}
 use Rattle.lesson_list.proofs.by_value.Tie as tie

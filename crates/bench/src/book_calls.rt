@@ -48,7 +48,7 @@ fn bookings(out: &mut [u8; 4096], at: usize, row: [Booking; 40], count: u32) -> 
 }
 
 pub fn list(out: &mut [u8; 4096], at: usize, v: Values, b: Book) -> usize {
-    let a = classbook::list_seat(b, v.first);
+    let a = lesson_list::listed(b, v.first);
     if a.refusal != 0 {
         return say::refused(out, at, a.refusal);
     }

@@ -16,17 +16,17 @@ use Rattle.code_text.proofs.Proper.{long-proper, short-proper}
 use Rattle.code_text.proofs.Reading.{read}
 use Rattle.elements.specs.Elements.{rowsOf, element, turned}
 use Rattle.codes.specs.Codes.{codeOf}
-use Rattle.elements.specs.Inside.{Reads, elementIn}
+use Rattle.elements.specs.Inside.{bitIn, elementIn}
 use Rattle.elements.proofs.Repeats.{element-turned}
 
--- a place of a row is a place of the table
-pub turn : (w i : ℕ) → 1 ≤ w → (i - 1) % (8 * w) < 8 * w
-turn w i h = mod-lt (i - 1) (omega arith)
+-- a place of a row is a place of the table, of m bytes
+turn : (w p : ℕ) → 1 ≤ w → p % (8 * w) < 8 * w
+turn w p h = mod-lt p (omega arith)
 
-pub place : (t : List ℕ) (w n i : ℕ) → Reads t w n i → n * w + (i - 1) % (8 * w) / 8 < length t
-place t w n i r =
-    let p : (i - 1) % (8 * w) < 8 * w = turn w i (r .width-low) in
-    let m : suc n * w ≤ 128 * w = mul-le-mul-right w (r .row-high) in
+pub place : (m w n p : ℕ) → m ≡ 128 * w → 1 ≤ w → n < 128 → n * w + p % (8 * w) / 8 < m
+place m w n p rows low h =
+    let l : p % (8 * w) < 8 * w = turn w p low in
+    let k : suc n * w ≤ 128 * w = mul-le-mul-right w h in
     let e : suc n * w ≡ n * w + w = suc-mul n w in
     omega arith
 
@@ -75,12 +75,12 @@ module _ (burst w m : ℕ) (t : List ℕ) (held : Holds burst w m t) (cell : ℕ
   of-cell i = element (codeOf burst .period) (getD (rowsOf burst) cell []) i
 
   pub read-at : (i : ℕ) → 1 ≤ i → elementIn t w cell i ≡ of-cell i
-  unfolding elementIn
+  unfolding elementIn bitIn
   read-at i l =
       let s = sound burst in
       let row = getD (rowsOf burst) cell [] in
       ap (λ (x : List ℕ). elementIn x w cell i) (held .rows)
-      ∙ ap (λ (b : ℕ). turned i b) (read w (rowsOf burst) cell ((i - 1) % (8 * w)) (omega (arith, s .count)) (turn w i (held .width)) (λ k. s .digit cell k h))
+      ∙ ap (λ (b : ℕ). turned i b) (read w (rowsOf burst) cell ((i - 1) % (8 * w)) (omega (arith, s .count)) (turn w (i - 1) (held .width)) (λ k. s .digit cell k h))
       ∙ sym (element-turned (8 * w) row i (omega arith) l)
       ∙ ap (λ (P : ℕ). element P row i) (sym (held .period))
 

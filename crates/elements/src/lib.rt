@@ -2,12 +2,30 @@
 // Public for the crate midambles, whose calls have tested the cell and the chip before.
 ghost use mathlib.Core.Path.{_≡_};
 ghost use mathlib.Core.List.{_++_, []};
-ghost use Prim.Native.Nat.{ℕ, _<_, _≤_, _+_};
+ghost use Prim.Native.Nat.{ℕ, _<_, _≤_, _+_, _*_};
 ghost use lib.ListN.{getD, drop, length};
 ghost use Rattle.laws.specs.Runs.{run};
-ghost use Rattle.elements.specs.Elements.{rowsOf, element};
+ghost use Rattle.elements.specs.Elements.{rowsOf, turned, element};
 ghost use Rattle.codes.specs.Codes.{codeOf};
-ghost use Rattle.elements.specs.Inside.{Reads, elementIn};
+ghost use Rattle.elements.specs.Inside.{Reads, bitIn, elementIn};
+
+// Bit p (from 0) of row n of a table of rows of w bytes, the highest bit of a byte first; beyond its 8w bits the row repeats.
+fn bit_in(t: &[u8], w: u32, n: u32, p: u32) -> u8
+    requires { ⌜ (length (now t) ≡ 128 * w) × (1 ≤ w) × (w ≤ 57) × (n < 128) ⌝ }
+    ensures { λ r. ⌜ r ≡ bitIn (now (t .entry)) w n p ⌝ }
+{
+    let q = p % (8 * w);
+    let b = t[(n * w + q / 8) as usize];
+    (b >> (7 - q % 8)) % 2
+}
+
+// Element i of a row as its power of j: bit 1 is +1, bit 0 is -1.
+fn power_of(i: u32, bit: u8) -> u8
+    requires { ⌜ (i < 65536) × (bit < 2) ⌝ }
+    ensures { λ r. ⌜ r ≡ turned i bit ⌝ }
+{
+    ((i + 2 * (1 - bit as u32)) % 4) as u8
+}
 
 // Element chip + by of row n of a table of rows of w bytes, as its power of j.
 fn element_in(t: &[u8], w: u32, n: u32, chip: u32, by: u32) -> u8
@@ -15,10 +33,8 @@ fn element_in(t: &[u8], w: u32, n: u32, chip: u32, by: u32) -> u8
     ensures { λ r. ⌜ r ≡ elementIn (now (t .entry)) w n (chip + by) ⌝ }
 {
     let i = chip + by;
-    let p = (i - 1) % (8 * w);
-    let b = t[(n * w + p / 8) as usize];
-    let bit = (b >> (7 - p % 8)) % 2;
-    ((i + 2 * (1 - bit as u32)) % 4) as u8
+    let p = i - 1;
+    power_of(i, bit_in(t, w, n, p))
 }
 
 // The elements after `by`, as many as `count`, into the first places of `out`.

@@ -26,8 +26,8 @@ said-midamble-once (midamble.Written p) (midamble.Written q) e = cc
 said-midamble-once (midamble.Refused n) (midamble.Written q) e = cc
 said-midamble-once (midamble.Written p) (midamble.Refused m) e = cc
 
-pub chip-asks-nothing : (κs : _) (a : _) → midamble-chip.Pre κs a
-chip-asks-nothing κs a = tt
+pub midamble_chip-asks-nothing : (κs : _) (a : _) → midamble-chip.Pre κs a
+midamble_chip-asks-nothing κs a = tt
 
 pub midamble-asks-nothing : (κs : _) (a : _) → whole.Pre κs a
 midamble-asks-nothing κs a = tt

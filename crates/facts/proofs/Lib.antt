@@ -3,3 +3,4 @@ pub mod Replies
 pub mod Calls
 pub mod Sequences
 pub mod Fields
+pub mod Room

@@ -4,3 +4,4 @@ pub mod Calls
 pub mod Sequences
 pub mod Fields
 pub mod Room
+pub mod Lists

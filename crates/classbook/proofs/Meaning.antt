@@ -52,7 +52,7 @@ module _ (b : Book) (seat other : ℕ) (apart : other ≡ seat → ⊥) where
   close-apart = other-seat _ b seat _ other apart
 
 -- ---- the seat itself, where the call was not refused
-own-seat : (n : ℕ) (b : Book) (seat : ℕ) (s : Seat) → n ≡ 0 → seat < length (b .seats) → seatOf (after n b (withSeat b seat s)) seat ≡ s
+pub own-seat : (n : ℕ) (b : Book) (seat : ℕ) (s : Seat) → n ≡ 0 → seat < length (b .seats) → seatOf (after n b (withSeat b seat s)) seat ≡ s
 unfolding seatOf withSeat
 own-seat n b seat s z low =
     ap (λ (c : Book). getD (c .seats) seat closed) (after-answered n b (withSeat b seat s) z) ∙ getD-set-same (b .seats) seat s closed low

@@ -3,3 +3,5 @@ pub mod Replies
 pub mod Calls
 pub mod Sequences
 pub mod Fields
+pub mod Room
+pub mod Lists

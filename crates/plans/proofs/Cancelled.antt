@@ -70,7 +70,7 @@ module _ (t Q k : ℕ) where
   without-none (y ∷ l) e = rw (not-true (names t Q k y) (hd other y l e)) (ap (λ (m : List Booking). y ∷ m) (without-none l (tl other y l e)))
 
   -- what holds of each, or of each and every later one, still does
-  without-every : (p : Booking → Bool) (l : List Booking) → every p l ≡ true → every p (without t Q k l) ≡ true
+  pub without-every : (p : Booking → Bool) (l : List Booking) → every p l ≡ true → every p (without t Q k l) ≡ true
   unfolding without
   without-every p [] e = e
   without-every p (y ∷ l) e =

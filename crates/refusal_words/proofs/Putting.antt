@@ -2,18 +2,18 @@
 -- Assumes nothing.
 use mathlib.Core.Path.{_≡_, refl, sym, ap, _∙_}
 use mathlib.Core.List.{List, [], _∷_, _++_}
-use Prim.Native.Nat.{ℕ, suc, _+_, _≤_, _<_}
+use Prim.Native.Nat.{ℕ, suc, _+_, _-_, _≤_, _<_}
 use native.Mathlib.Numerals.{add-one}
 use native.Mathlib.Omega.{arith}
 use lib.ListN.{length, take, drop, set, getD}
-use lib.Seq.{drop-cons, getD-drop, set-at, append-snoc, take-suc, take-all, length-take-le}
+use lib.Seq.{drop-cons, set-at, append-snoc, take-suc, take-all, length-take-le}
 use lib.Dec.{ltb}
 use borrow.Author.Tests.{lt-ltb, le-ltb}
 use Rattle.refusals.specs.Refusals.{Answer, refused, answered, _leaving_, firstOf, answer}
 use Rattle.refusals.proofs.First.{first-holds, first-passes, answer-refused, answer-answered, after-refused, after-answered}
 use Rattle.refusal_words.specs.Words.{wordsOf, putting, wordsOutcome}
-use Rattle.refusal_words.specs.Inside.{texts, chained}
-use Rattle.refusal_words.proofs.Chain.{none-left, size-here, text-here, words-text}
+use Rattle.refusal_words.specs.Inside.{chained, behind, Speaks}
+use Rattle.refusal_words.proofs.Chain.{behind-chained, none-left, size-here, text-here, ends-within}
 
 -- one more byte
 pub copy-turn : (text was out : List ℕ) (i : ℕ) → i < length text → i < length was → out ≡ take i text ++ drop i was
@@ -53,28 +53,31 @@ module _ (text was : List ℕ) where
 
 -- ---- `put`, by what stands at the number's place
 
-module _ (chain : List ℕ) (at number : ℕ) (was : List ℕ) (e : drop at chain ≡ chained (drop number texts)) where
+module _ (chain : List ℕ) (first number : ℕ) (was : List ℕ) (speaks : Speaks chain first number) (at : ℕ) (e : drop at chain ≡ behind (number - first) chain) where
+  links : drop at chain ≡ chained (drop (number - first) (speaks .links))
+  links = e ∙ ap (λ (l : List ℕ). behind (number - first) l) (speaks .made) ∙ behind-chained (number - first) (speaks .links)
+
   pub words-none : length chain ≤ at → (answered 0 leaving was) ≡ wordsOutcome number was
   unfolding wordsOutcome
   words-none h =
-      let z : drop number texts ≡ [] = none-left chain at number texts e h in
-      let i : number + 0 ≡ number = omega arith in
-      let w : wordsOf number ≡ [] = words-text number ∙ sym (getD-drop number texts 0 [] ∙ ap (λ (n : ℕ). getD texts n []) i) ∙ ap (λ (l : List (List ℕ)). getD l 0 []) z in
-      put-written [] was was (omega arith) refl ∙ ap (λ (t : List ℕ). putting t was) (sym w)
+      let w : [] ≡ wordsOf number = sym (none-left chain at (number - first) (speaks .links) links h) ∙ speaks .said in
+      put-written [] was was (omega arith) refl ∙ ap (λ (t : List ℕ). putting t was) w
 
-  module _ (n : ℕ) (h : at < length chain) (q : n ≡ getD chain at 0) where
-    text : n ≡ length (wordsOf number)
-    text = q ∙ size-here chain at number texts e h ∙ ap length (sym (words-text number))
+  module _ (h : at < length chain) where
+    size : getD chain at 0 ≡ length (wordsOf number)
+    size = size-here chain at (number - first) (speaks .links) links h ∙ ap length (speaks .said)
 
-    pub words-short : length was < n → (refused 11 leaving was) ≡ wordsOutcome number was
+    pub words-within : at + 1 + getD chain at 0 ≤ length chain
+    words-within = ends-within chain at (number - first) (speaks .links) links h
+
+    pub words-short : length was < getD chain at 0 → (refused 11 leaving was) ≡ wordsOutcome number was
     unfolding wordsOutcome
-    words-short s = put-short (wordsOf number) was (omega (arith, text))
+    words-short s = put-short (wordsOf number) was (omega (arith, size))
 
-    pub words-written : (part out : List ℕ) → part ≡ take n (drop (at + 1) chain) → n ≤ length was → out ≡ part ++ drop (length part) was
-        → (answered n leaving out) ≡ wordsOutcome number was
+    pub words-written : (part out : List ℕ) → part ≡ take (getD chain at 0) (drop (at + 1) chain) → getD chain at 0 ≤ length was → out ≡ part ++ drop (length part) was
+        → (answered (getD chain at 0) leaving out) ≡ wordsOutcome number was
     unfolding wordsOutcome
     words-written part out p s o =
-        let w : part ≡ wordsOf number =
-        p ∙ ap (λ (k : ℕ). take k (drop (at + 1) chain)) q ∙ text-here chain at number texts e h ∙ sym (words-text number) in
-        ap (λ (k : ℕ). answered k leaving out) text
-        ∙ put-written (wordsOf number) was out (omega (arith, text)) (o ∙ ap (λ (l : List ℕ). l ++ drop (length l) was) w)
+        let w : part ≡ wordsOf number = p ∙ text-here chain at (number - first) (speaks .links) links h ∙ speaks .said in
+        ap (λ (k : ℕ). answered k leaving out) size
+        ∙ put-written (wordsOf number) was out (omega (arith, size)) (o ∙ ap (λ (l : List ℕ). l ++ drop (length l) was) w)

@@ -1,47 +1,41 @@
--- `refusal_words::place` meets its promise: as many texts are passed as the number says, or all.
+-- `refusal_words::place` meets its promise: as many texts are passed as it says, or all.
 -- Assumes nothing.
-use mathlib.Core.Path.{_≡_, refl, sym, ap, _∙_}
-use mathlib.Core.List.{List, []}
-use Prim.Native.Nat.{ℕ, _+_, _-_, _≤_}
+use mathlib.Core.Path.{_≡_, refl}
 use native.Mathlib.Omega.{arith}
-use lib.ListN.{length, drop, getD, drop-of-length-le}
+use lib.ListN.{drop}
 use denote.Ref.{now}
 use borrow.Author.Needs.{needs}
-use Rattle.refusal_words.specs.Inside.{texts, chained}
-use Rattle.refusal_words.proofs.Chain.{starts, passed, all-passed, all-over}
+use Rattle.refusal_words.specs.Inside.{behind}
+use Rattle.refusal_words.proofs.Chain.{one-passed, all-passed, all-over}
 use Rattle.refusal_words.proofs.place.Statement.{statement}
 use Rattle.refusal_words.proofs.place.Tie as tie
 
 abbrev Inv-loop : tie.InvT-loop
-Inv-loop chain number at₀ left₀ at left = (left ≤ number) × (at ≤ length chain) × (drop at chain ≡ chained (drop (number - left) texts))
+Inv-loop chain texts at₀ left₀ at left = behind left (drop at chain) ≡ behind texts chain
 
 abbrev μ-loop : tie.MeasureT-loop
-μ-loop chain number at₀ left₀ at left = left
+μ-loop chain texts at₀ left₀ at left = left
 
 loop-holds : tie.Need-loop-holds Inv-loop μ-loop
-loop-holds c = (omega arith, omega arith, starts _ (c .before .args .number) (c .before .pre))
+loop-holds c = refl
 
 returns : tie.Need-returns Inv-loop μ-loop
-returns c = all-over (now (c .before .before .before .before .args .chain)) (c .before .before .loop .at) (c .before .before .before .before .args .number) (c .before .before .loop .left) (c .before .before .loop .inv .2) (c .if1 .taken)
+returns c =
+    let l = c .before .before .loop in
+    let a = c .before .before .before .args in
+    all-over (now (a .chain)) (l .at) (l .left) (a .texts) (l .inv) (c .if1 .taken)
 
 add-at : tie.Need-add-at Inv-loop μ-loop
 add-at c = search needs
 
-shared-slice-read-wide : tie.Need-shared-slice-read-wide Inv-loop μ-loop
-shared-slice-read-wide c = search needs
-
-wide-requires : tie.Need-wide-requires Inv-loop μ-loop
-wide-requires c κs = search needs
+shared-slice-read-at : tie.Need-shared-slice-read-at Inv-loop μ-loop
+shared-slice-read-at c = search needs
 
 cast-at : tie.Need-cast-at Inv-loop μ-loop
-cast-at c = search needs
+cast-at c = omega (arith, c .shared-slice-known .given (c .before .before .before .loop .at))
 
 add-at-2 : tie.Need-add-at-2 Inv-loop μ-loop
-add-at-2 c =
-    let l = c .before .before .before .before .loop in
-    let a = c .before .before .before .before .before .before .args in
-    let p = passed (now (a .chain)) (l .at) (a .number) (l .left) (l .inv .2) (c .wide .result) (c .before .before .before .loop-test .taken) (l .inv .0) (c .before .before .if1 .left) (c .wide .ensures) in
-    omega (arith, p .0)
+add-at-2 c = omega (arith, c .shared-slice-known .given (c .before .before .before .loop .at))
 
 sub-left : tie.Need-sub-left Inv-loop μ-loop
 sub-left c = search needs
@@ -51,13 +45,15 @@ loop-less c = search needs
 
 loop-again : tie.Need-loop-again Inv-loop μ-loop
 loop-again c =
-    let l = c .before .before .before .before .loop in
-    let a = c .before .before .before .before .before .before .args in
-    let p = passed (now (a .chain)) (l .at) (a .number) (l .left) (l .inv .2) (c .wide .result) (c .before .before .before .loop-test .taken) (l .inv .0) (c .before .before .if1 .left) (c .wide .ensures) in
-    (omega arith, p .0, p .1)
+    let l = c .before .before .before .loop in
+    let a = c .before .before .before .before .args in
+    one-passed (now (a .chain)) (l .at) (l .left) (a .texts) (l .inv) (c .before .before .loop-test .taken) (c .before .if1 .left)
 
 returns-2 : tie.Need-returns-2 Inv-loop μ-loop
-returns-2 c = all-passed (now (c .before .before .before .args .chain)) (c .before .loop .at) (c .before .before .before .args .number) (c .before .loop .left) (c .before .loop .inv .2) (c .loop-test .left)
+returns-2 c =
+    let l = c .before .loop in
+    let a = c .before .before .args in
+    all-passed (now (a .chain)) (l .at) (l .left) (a .texts) (l .inv) (c .loop-test .left)
 
 pub place-spec : {M : Type 1} → statement M
 place-spec =
@@ -68,8 +64,7 @@ place-spec =
     loop-holds
     returns
     add-at
-    shared-slice-read-wide
-    wide-requires
+    shared-slice-read-at
     cast-at
     add-at-2
     sub-left

@@ -5,3 +5,4 @@ pub mod Sequences
 pub mod Fields
 pub mod Room
 pub mod Lists
+pub mod Codes

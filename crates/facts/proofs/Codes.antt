@@ -1,22 +1,21 @@
--- Document 01, "The class book": "overlap is a shared leaf", which the clash tests by first leaf and
--- number of leaves; where it is, one code's leaves are all among the other's; and what refusal 17
--- says of two bookings. No function's proof cites it: it is for the reader. Assumes nothing.
-use mathlib.Core.Path.{_≡_, refl, sym, ap}
-use mathlib.Core.Bool.{Bool, true, false, not, _||_}
+-- Document 01, "The class book": "overlap is a shared leaf", which the clash tests by first leaf
+-- and number of leaves; and where it is, all leaves of one code are leaves of the other. Cited by
+-- Clashes; else it is for the reader. Assumes nothing.
+use mathlib.Core.Path.{_≡_}
+use mathlib.Core.Bool.{true, _||_}
 use mathlib.Core.List.{[], _∷_}
 use mathlib.Core.Logic.{_↔_, _⊎_, inl, inr, ⊎-elim}
 use Prim.Native.Nat.{ℕ, _+_, _-_, _*_, _/_, _<_, _≤_}
 use native.Mathlib.Omega.{arith}
-use lib.Dec.{eqb, ltb, lit≤}
-use borrow.Author.Tests.{ltb-true, ltb-false, lt-ltb, eqb-true, eqb-false, eq-eqb, ne-eqb}
-use borrow.Author.Tests.{not-true, not-false}
-use Rattle.laws.proofs.Bools.{true-false, and-true, both, or-false}
+use lib.Dec.{ltb, lit≤}
+use borrow.Author.Tests.{ltb-true, ltb-false, lt-ltb, not-false}
+use Rattle.laws.proofs.Bools.{and-true, both, or-false}
 use Rattle.laws.proofs.Cases.{below-or-not, one-of}
-use Rattle.conditions.specs.declared.Direction.{Direction}
-use Rattle.conditions.specs.declared.Direction.the-variants.{Up, Down}
-use Rattle.conditions.specs.Conditions.{badFactor, badCode, isDown}
+use Rattle.refusals.proofs.First.{first-none}
+use Rattle.conditions.specs.Conditions.{badFactor, badCode, badDownFactor}
+use Rattle.tables.specs.Tables.{formRefusals}
 use Rattle.bookings.specs.declared.Booking.{Booking}
-use Rattle.bookings.specs.Bookings.{leavesOf, firstLeaf, leaf, overlaps, sameDirection, mixed, clash}
+use Rattle.bookings.specs.Bookings.{formOf, leavesOf, firstLeaf, leaf, overlaps}
 use Rattle.facts.specs.Codes.{Good, Covers, SharedLeaf, Inside}
 
 -- ---- a good code
@@ -57,7 +56,7 @@ meet a m b n p q s t =
     ⊎-elim (λ h. (b, ((omega arith, t), (omega arith, omega arith))))
     (λ h. (a, ((omega arith, omega arith), (h, s)))) (below-or-not a b)
 
--- ---- two good codes that share a leaf: the one with fewer leaves, or as many, lies inside the other
+-- ---- two good codes that share a leaf: the one of fewer leaves, or as many, lies inside the other
 module _ (Q k R j : ℕ) (gq : Good Q k) (gr : Good R j) where
   abbrev Within : ℕ → ℕ → Type 0
   Within q r = (u v : ℕ) → 16 / q ≤ 16 / r → u * (16 / q) < v * (16 / r) + 16 / r
@@ -113,29 +112,18 @@ shared-inside Q k R j gq gr = (
       (λ i. shared-back R j Q k (inside-shared R j Q k gr gq i)),
 )
 
--- ---- the grounds of a clash, as tests and as they are meant
-or-either : (a b : Bool) → ((a || b) ≡ true) ↔ ((a ≡ true) ⊎ (b ≡ true))
-or-either true b = (λ e. inl refl, λ e. refl)
-or-either false b = (inr, ⊎-elim (λ e. true-false (sym e)) (λ e. e))
+-- ---- two bookings of good codes, which every booking in form has
+pub form-good : (x : Booking) → formOf x ≡ 0 → Good (x .factor) (x .index)
+unfolding formOf formRefusals
+form-good x e =
+    let five = first-none 4 _ _ (first-none 3 _ _ (first-none 1 _ _ e .1) .1) in
+    let six = first-none 5 _ _ (five .1) in
+    or-false (badCode (x .factor) (x .index)) (badDownFactor (x .direction) (x .factor)) (six .0) .0
 
-directions-differ : (d e : Direction) → (not (sameDirection d e) ≡ true) ↔ (d ≡ e → ⊥)
-unfolding sameDirection isDown
-directions-differ Up Up = (λ e. true-false (sym e), λ h. absurd (h refl))
-directions-differ Down Down = (λ e. true-false (sym e), λ h. absurd (h refl))
-directions-differ Up Down = (λ t e. true-false (sym (ap isDown e)), λ h. refl)
-directions-differ Down Up = (λ t e. true-false (ap isDown e), λ h. refl)
-
-types-differ : (t u : ℕ) → (mixed t u ≡ true) ↔ (t ≡ u → ⊥)
-unfolding mixed
-types-differ t u = (λ m. eqb-false t u (not-true (eqb t u) m), λ h. ap not (ne-eqb t u h))
-
--- ---- two bookings of good codes
 module _ (x y : Booking) (gx : Good (x .factor) (x .index)) (gy : Good (y .factor) (y .index)) where
-  abbrev Shared : Type 0
-  Shared = SharedLeaf (x .factor) (x .index) (y .factor) (y .index)
-
   -- "overlap is a shared leaf"
-  pub overlap-shared : (overlaps x y ≡ true) ↔ Shared
+  pub overlap-shared : (overlaps x y ≡ true)
+      ↔ SharedLeaf (x .factor) (x .index) (y .factor) (y .index)
   unfolding overlaps firstLeaf leavesOf SharedLeaf Covers
   overlap-shared =
       let m = leavesOf (x .factor) in
@@ -148,43 +136,3 @@ module _ (x y : Booking) (gx : Good (x .factor) (x .index)) (gy : Good (y .facto
             both _ _ (lt-ltb (leaf x) (leaf y + n) (omega (arith, s .1 .0 .0, s .1 .1 .1)))
             (lt-ltb (leaf y) (leaf x + m) (omega (arith, s .1 .1 .0, s .1 .0 .1))),
       )
-
-  abbrev Grounds : Type 0
-  Grounds = (x .direction ≡ y .direction → ⊥) ⊎ ((x .burst ≡ y .burst → ⊥) ⊎ Shared)
-
-  -- "Two bookings of one seat clash if their timeslots are equal and their directions differ, or
-  -- their burst types differ .., or their codes overlap."
-  pub clash-grounds : (clash x y ≡ true) ↔ ((x .timeslot ≡ y .timeslot) × Grounds)
-  unfolding clash
-  clash-grounds =
-      let slot = eqb (x .timeslot) (y .timeslot) in
-      let one = not (sameDirection (x .direction) (y .direction)) in
-      let two = mixed (x .burst) (y .burst) in
-      let three = overlaps x y in
-      let d = directions-differ (x .direction) (y .direction) in
-      let t = types-differ (x .burst) (y .burst) in
-      let first = or-either one (two || three) in
-      let later = or-either two three in (
-        λ e.
-            let c = and-true slot (one || (two || three)) e in (
-              eqb-true _ _ (c .0),
-              ⊎-elim (λ h. inl (d .0 h))
-                  (λ h. inr (⊎-elim (λ g. inl (t .0 g)) (λ g. inr (overlap-shared .0 g)) (later .0 h)))
-                  (first .0 (c .1)),
-            ),
-        λ g.
-            both slot (one || (two || three)) (eq-eqb _ _ (g .0))
-            (first .1 (⊎-elim (λ h. inl (d .1 h))
-            (λ h. inr (later .1 (⊎-elim (λ f. inl (t .1 f)) (λ f. inr (overlap-shared .1 f)) h)))
-            (g .1))),
-      )
-
-  -- so that two of one timeslot, direction and type clash, which is 17, exactly when a leaf is shared
-  pub clash-shared : x .timeslot ≡ y .timeslot → x .direction ≡ y .direction
-      → x .burst ≡ y .burst → (clash x y ≡ true) ↔ Shared
-  clash-shared s d t = (
-    λ e.
-        ⊎-elim (λ h. absurd (h d)) (⊎-elim (λ h. absurd (h t)) (λ h. h))
-        (clash-grounds .0 e .1),
-    λ h. clash-grounds .1 (s, inr (inr h)),
-  )

@@ -6,3 +6,4 @@ pub mod Fields
 pub mod Room
 pub mod Lists
 pub mod Codes
+pub mod Clashes

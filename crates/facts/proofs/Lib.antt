@@ -5,3 +5,5 @@ pub mod Sequences
 pub mod Fields
 pub mod Room
 pub mod Lists
+pub mod Codes
+pub mod Clashes

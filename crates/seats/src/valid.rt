@@ -81,14 +81,21 @@ fn row_ok(row: [Booking; 40], n: usize, case: u8, k: u8, long: u8, short: u8) ->
 fn is_bare(live: bool, cell: u8, case: u8, k: u8, long: u8, short: u8, count: u8) -> bool
     ensures { λ r. ⌜ r ≡ (not live && (eqb cell 0 && (eqb case 0 && (eqb k 0 && (eqb long 0 && (eqb short 0 && eqb count 0)))))) ⌝ }
 {
-    !live & ((cell == 0) & ((case == 0) & ((k == 0) & ((long == 0) & ((short == 0) & (count == 0))))))
+    !live
+        & ((cell == 0) & ((case == 0) & ((k == 0) & ((long == 0) & ((short == 0) & (count == 0))))))
 }
 
 // An open seat's settings pass 1, 3 (no 0 left) and 9.
 fn settings_pass(cell: u8, case: u8, k: u8, long: u8, short: u8) -> bool
     ensures { λ r. ⌜ r ≡ eqb (firstOf (settingsRefusals cell case k long short)) 0 ⌝ }
 {
-    let n = tables::settings_refusal(cell as u32, case as u32, k as u32, long as u32, short as u32);
+    let n = tables::settings_refusal(
+        cell as u32,
+        case as u32,
+        k as u32,
+        long as u32,
+        short as u32,
+    );
     n == 0
 }
 

@@ -7,7 +7,6 @@ use Rattle.book_tables.proofs.beyond_ten.Tie as tie
 held-by-requires : tie.Need-held-by-requires
 held-by-requires c κs = search needs
 
-
 returns : tie.Need-returns
 returns c = search needs
 

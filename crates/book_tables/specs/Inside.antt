@@ -16,6 +16,10 @@ use Rattle.seats.specs.Seats.{held, bookings}
 unfoldable pub openRows : Bool → ℕ → Bool → ℕ → ℕ → ℕ → ℕ → ℕ → Refusals
 openRows ok seat live cell case k long short = settingsRefusals cell case k long short ++ (12, not ok) ∷ (13, ltb 15 seat) ∷ (15, live) ∷ []
 
+-- of a booking, by what the tests of its own seat gave: 16 to 20
+unfoldable pub ownRows : Bool → Bool → Bool → Bool → Bool → Refusals
+ownRows above clash off full out = (16, above) ∷ (17, clash) ∷ (18, off) ∷ (19, full) ∷ (20, out) ∷ []
+
 -- of a booking in the seat s, its own numbers passed
 unfoldable pub bookingRows : Bool → ℕ → ℕ → Seat → Booking → Refusals
 bookingRows ok used seat s x =

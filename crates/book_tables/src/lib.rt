@@ -2,9 +2,11 @@
 ghost use mathlib.Core.Path.{_≡_};
 ghost use mathlib.Core.Bool.{_&&_};
 ghost use Prim.Native.Nat.{_+_, _-_, _≤_, min};
+ghost use lib.Dec.{eqb, leb};
 ghost use Rattle.refusals.specs.Refusals.{firstOf};
+ghost use Rattle.refusals.specs.Inside.{rowByRow};
 ghost use Rattle.seats.specs.Seats.{held, seatOk};
-ghost use Rattle.book_tables.specs.Inside.{openRows, bookingRows, cancelRows, seatRows};
+ghost use Rattle.book_tables.specs.Inside.{openRows, ownRows, bookingRows, cancelRows, seatRows};
 use bookings::Booking;
 use seats::Seat;
 
@@ -54,6 +56,33 @@ pub fn open_refusal(
     refusals::or_refused(n, 15, live)
 }
 
+// Of closing and listing; a booking begins with it too.
+pub fn seat_refusal(ok: bool, seat: u32, live: bool) -> u32
+    ensures { λ r. ⌜ r ≡ firstOf (seatRows ok seat live) ⌝ }
+{
+    let r = refusals::or_refused(0, 12, !ok);
+    let r = refusals::or_refused(r, 13, seat > 15);
+    refusals::or_refused(r, 14, !live)
+}
+
+// Of a booking: whether the common room is used up for a seat that holds so many.
+fn used_up(held: usize, used: usize) -> bool
+    ensures { λ r. ⌜ r ≡ (leb 10 held && eqb used 80) ⌝ }
+{
+    (10 <= held) & (used == 80)
+}
+
+// Of a booking: what stands against it in its own seat, behind the refusal n that was given so far.
+fn own_refusal(n: u32, above: bool, clash: bool, off: bool, full: bool, out: bool) -> u32
+    ensures { λ r. ⌜ r ≡ rowByRow n (ownRows above clash off full out) ⌝ }
+{
+    let n = refusals::or_refused(n, 16, above);
+    let n = refusals::or_refused(n, 17, clash);
+    let n = refusals::or_refused(n, 18, off);
+    let n = refusals::or_refused(n, 19, full);
+    refusals::or_refused(n, 20, out)
+}
+
 // Of a booking whose own numbers have passed: the book, the seat and its room.
 pub fn booking_refusal(ok: bool, used: usize, seat: u32, s: Seat, x: Booking) -> u32
     ensures { λ r. ⌜ r ≡ firstOf (bookingRows ok used seat s x) ⌝ }
@@ -63,14 +92,9 @@ pub fn booking_refusal(ok: bool, used: usize, seat: u32, s: Seat, x: Booking) ->
     let above = seats::rules::above_count(s.long, s.short, x);
     let clash = seats::rules::clashes_any(row, held, x);
     let off = seats::rules::off_beacon(s.case, s.k, x);
-    let n = refusals::or_refused(0, 12, !ok);
-    let n = refusals::or_refused(n, 13, seat > 15);
-    let n = refusals::or_refused(n, 14, !s.live);
-    let n = refusals::or_refused(n, 16, above);
-    let n = refusals::or_refused(n, 17, clash);
-    let n = refusals::or_refused(n, 18, off);
-    let n = refusals::or_refused(n, 19, held == 40);
-    refusals::or_refused(n, 20, (10 <= held) & (used == 80))
+    let out = used_up(held, used);
+    let n = seat_refusal(ok, seat, s.live);
+    own_refusal(n, above, clash, off, held == 40, out)
 }
 
 // Of cancelling, where the seat has none that is named, or has one.
@@ -87,19 +111,10 @@ pub fn cancel_refusal(
 {
     let five = conditions::bad_timeslot(timeslot);
     let six = conditions::bad_code(factor, index);
-    let n = refusals::or_refused(0, 5, five);
-    let n = refusals::or_refused(n, 6, six);
-    let n = refusals::or_refused(n, 12, !ok);
-    let n = refusals::or_refused(n, 13, seat > 15);
-    let n = refusals::or_refused(n, 14, !live);
-    refusals::or_refused(n, 21, none)
-}
-
-// Of closing and listing.
-pub fn seat_refusal(ok: bool, seat: u32, live: bool) -> u32
-    ensures { λ r. ⌜ r ≡ firstOf (seatRows ok seat live) ⌝ }
-{
-    let n = refusals::or_refused(0, 12, !ok);
-    let n = refusals::or_refused(n, 13, seat > 15);
-    refusals::or_refused(n, 14, !live)
+    let m = refusals::or_refused(0, 5, five);
+    let m = refusals::or_refused(m, 6, six);
+    let m = refusals::or_refused(m, 12, !ok);
+    let m = refusals::or_refused(m, 13, seat > 15);
+    let m = refusals::or_refused(m, 14, !live);
+    refusals::or_refused(m, 21, none)
 }

@@ -1,6 +1,8 @@
 // One booking: what it must meet by itself, what its code covers, and when two of a seat clash.
 ghost use mathlib.Core.Path.{_≡_};
-ghost use Prim.Native.Nat.{_-_, _*_, _≤_};
+ghost use mathlib.Core.Bool.{not, _&&_, _||_};
+ghost use Prim.Native.Nat.{_+_, _-_, _*_, _≤_};
+ghost use lib.Dec.{eqb, ltb};
 ghost use Rattle.refusals.specs.Refusals.{firstOf};
 ghost use Rattle.conditions.specs.Conditions.{badBookedUser, badTimeslot, badCode};
 ghost use Rattle.tables.specs.Tables.{formRefusals};
@@ -84,6 +86,14 @@ pub fn same_direction(d: Direction, e: Direction) -> bool
     }
 }
 
+// Whether m leaves from a and n leaves from b share one.
+fn share_leaf(a: u32, m: u32, b: u32, n: u32) -> bool
+    requires { ⌜ (a ≤ 4080) × (m ≤ 16) × (b ≤ 4080) × (n ≤ 16) ⌝ }
+    ensures { λ r. ⌜ r ≡ (ltb a (b + n) && ltb b (a + m)) ⌝ }
+{
+    (a < b + n) & (b < a + m)
+}
+
 // Whether two bookings clash whose codes cover m leaves from a, and n leaves from b.
 fn clash_over(x: Booking, y: Booking, a: u32, m: u32, b: u32, n: u32) -> bool
     requires { ⌜ (a ≡ leaf x) × (m ≡ leavesOf (x .factor)) × (b ≡ leaf y) × (n ≡ leavesOf (y .factor)) × (a ≤ 4080) × (m ≤ 16) × (b ≤ 4080) × (n ≤ 16) ⌝ }
@@ -95,7 +105,7 @@ fn clash_over(x: Booking, y: Booking, a: u32, m: u32, b: u32, n: u32) -> bool
     let dx = x.direction;
     let dy = y.direction;
     let same = same_direction(dx, dy);
-    let over = (a < b + n) & (b < a + m);
+    let over = share_leaf(a, m, b, n);
     !same | (!(x.burst == y.burst) | over)
 }
 
@@ -142,6 +152,27 @@ pub fn fine_pair(x: Booking, y: Booking) -> bool
     before & !clash
 }
 
+// Rule (a) is broken: only downlink type 1 is booked.
+fn off_type(down: bool, burst: u8) -> bool
+    ensures { λ r. ⌜ r ≡ (not down || not (eqb burst 1)) ⌝ }
+{
+    !down | !(burst == 1)
+}
+
+// Rule (b) or (c) is broken, where `first` says that the code is (16, 1): it takes user 1, and user 1 goes to no other code.
+fn off_first(first: bool, user: u8) -> bool
+    ensures { λ r. ⌜ r ≡ ((first && not (eqb user 1)) || (eqb user 1 && not first)) ⌝ }
+{
+    (first & !(user == 1)) | ((user == 1) & !first)
+}
+
+// Rule (d) or (e) is broken: user 2 is not booked, and users 9 and 10 are left unused.
+fn off_user(user: u8) -> bool
+    ensures { λ r. ⌜ r ≡ (eqb user 2 || (eqb user 9 || eqb user 10)) ⌝ }
+{
+    (user == 2) | ((user == 9) | (user == 10))
+}
+
 // Whether a booking in a beacon timeslot breaks one of the rules (a) to (f).
 pub fn breaks_beacon(x: Booking) -> bool
     ensures { λ r. ⌜ r ≡ breaksBeacon x ⌝ }
@@ -149,10 +180,9 @@ pub fn breaks_beacon(x: Booking) -> bool
     let d = x.direction;
     let down = conditions::is_down(d);
     let first = (x.factor == 16) & (x.index == 1);
-    let a = !down | !(x.burst == 1);
-    let b = first & !(x.user == 1);
-    let c = (x.user == 1) & !first;
-    let e = (x.user == 9) | (x.user == 10);
+    let a = off_type(down, x.burst);
+    let b = off_first(first, x.user);
+    let d = off_user(x.user);
     let f = (x.factor == 1) & (x.index == 1);
-    a | (b | (c | ((x.user == 2) | (e | f))))
+    a | (b | (d | f))
 }

@@ -134,9 +134,9 @@ fn kept(x: Request) -> Booking
 fn book_kept(b: Book, seat: u32, x: Booking) -> BookAnswer
     ensures { λ r. ⌜ r ≡ bookingAnswer b seat x ⌝ }
 {
-    let t = walk::check(b, seat);
-    let s = t.seat;
-    let n = book_tables::booking_refusal(t.ok, t.used, seat, s, x);
+    let found = walk::check(b, seat);
+    let s = found.seat;
+    let n = book_tables::booking_refusal(found.ok, found.used, seat, s, x);
     if n != 0 {
         return BookAnswer {
             refusal: n,
@@ -228,8 +228,8 @@ fn listed(n: u32, s: Seat) -> ListAnswer
 pub fn list_seat(b: Book, seat: u32) -> ListAnswer
     ensures { λ r. ⌜ r ≡ listAnswer b seat ⌝ }
 {
-    let t = walk::check(b, seat);
-    let n = book_tables::seat_refusal(t.ok, seat, t.seat.live);
-    let s = t.seat;
+    let w = walk::check(b, seat);
+    let n = book_tables::seat_refusal(w.ok, seat, w.seat.live);
+    let s = w.seat;
     listed(n, s)
 }

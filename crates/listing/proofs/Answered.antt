@@ -3,12 +3,12 @@
 use mathlib.Core.Path.{_≡_, refl, sym, ap, _∙_}
 use mathlib.Core.Bool.{Bool, true, false, cond}
 use mathlib.Core.List.{List, _++_}
-use Prim.Native.Nat.{ℕ, zero, suc, _≤_, _<_}
+use Prim.Native.Nat.{ℕ, zero, suc, _≤_}
 use native.Mathlib.Omega.{arith}
 use lib.Dec.{ltb}
 use lib.ListN.{length, take, drop, replicate}
 use lib.Seq.{length-take-le}
-use borrow.Author.Tests.{eq-eqb, ne-eqb, lt-ltb, le-ltb, ltb-false}
+use borrow.Author.Tests.{eq-eqb, ne-eqb, ltb-false}
 use Rattle.refusals.specs.Refusals.{Answer, refused, answered, Outcome, _leaving_, firstOf, answer, after}
 use Rattle.refusals.proofs.First.{answer-refused, answer-answered, after-refused, after-answered}
 use Rattle.bookings.specs.declared.Booking.{Booking}
@@ -29,13 +29,15 @@ answerOf n m row = record { refusal = n; count = m; row = row }
 
 -- ---- `selected`
 
-pub selected-few : (b : Book) (seat size : ℕ) (l : ListAnswer) → l ≡ listAnswer b seat → size < 40 → answerOf 11 0 (l .row) ≡ selectionOf b seat size
+pub selected-few : (b : Book) (seat size : ℕ) (l : ListAnswer) (few : Bool) → l ≡ listAnswer b seat → few ≡ ltb size 40 → few ≡ true
+    → answerOf 11 0 (l .row) ≡ selectionOf b seat size
 unfolding selectionOf
-selected-few b seat size l e h = rw (e, lt-ltb size 40 h) refl
+selected-few b seat size l few e f h = rw (e, sym f ∙ h) refl
 
-pub selected-given : (b : Book) (seat size : ℕ) (l : ListAnswer) → l ≡ listAnswer b seat → 40 ≤ size → answerOf (l .refusal) (l .count) (l .row) ≡ selectionOf b seat size
+pub selected-given : (b : Book) (seat size : ℕ) (l : ListAnswer) (few : Bool) → l ≡ listAnswer b seat → few ≡ ltb size 40 → few ≡ false
+    → answerOf (l .refusal) (l .count) (l .row) ≡ selectionOf b seat size
 unfolding selectionOf
-selected-given b seat size l e h = rw (e, le-ltb size 40 h) refl
+selected-given b seat size l few e f h = rw (e, sym f ∙ h) refl
 
 -- ---- `reply_of`
 

@@ -2,6 +2,7 @@
 ghost use mathlib.Core.Path.{_≡_};
 ghost use mathlib.Core.List.{_++_};
 ghost use Prim.Native.Nat.{_<_, _≤_};
+ghost use lib.Dec.{ltb};
 ghost use lib.ListN.{length, take, drop, getD};
 ghost use Rattle.seats.specs.Seats.{blank};
 ghost use Rattle.refusals.specs.Refusals.{_leaving_};
@@ -17,13 +18,22 @@ pub enum ListReply {
     Listed(u32),
 }
 
+// Refusal 11: fewer than 40 records, however few the list writes.
+fn few_records(size: usize) -> bool
+    ensures { λ r. ⌜ r ≡ ltb size 40 ⌝ }
+{
+    size < 40
+}
+
 // What is to be written into so many records: the list by value, or 11 and nothing.
 fn selected(b: Book, seat: u32, size: usize) -> ListAnswer
     ensures { λ r. ⌜ r ≡ selectionOf b seat size ⌝ }
 {
     let l = classbook::list_seat(b, seat);
     let row = l.row;
-    if size < 40 {
+    let refusal = l.refusal;
+    let few = few_records(size);
+    if few {
         return ListAnswer {
             refusal: 11,
             count: 0,
@@ -31,7 +41,7 @@ fn selected(b: Book, seat: u32, size: usize) -> ListAnswer
         };
     }
     ListAnswer {
-        refusal: l.refusal,
+        refusal,
         count: l.count,
         row,
     }

@@ -30,100 +30,100 @@ once o r r' m m' p q =
 
 -- ---- calls that lend no memory
 
-pub chip-total : (κs : _) (a : _) → chip.Pre κs a
-chip-total κs a = tt
+pub mq-midamble-chip-total : (κs : _) (a : _) → chip.Pre κs a
+mq-midamble-chip-total κs a = tt
 
-pub chip-unique : (κs : _) (a : _) (r r' : _) (s s' : _) → chip.Post κs a r s → chip.Post κs a r' s' → r ≡ r'
-chip-unique κs a r r' s s' p q = p ∙ sym q
+pub mq-midamble-chip-unique : (κs : _) (a : _) (r r' : _) (s s' : _) → chip.Post κs a r s → chip.Post κs a r' s' → r ≡ r'
+mq-midamble-chip-unique κs a r r' s s' p q = p ∙ sym q
 
-pub empty-total : (κs : _) (a : _) → empty.Pre κs a
-empty-total κs a = tt
+pub mq-empty-book-total : (κs : _) (a : _) → empty.Pre κs a
+mq-empty-book-total κs a = tt
 
-pub empty-unique : (κs : _) (a : _) (r r' : _) (s s' : _) → empty.Post κs a r s → empty.Post κs a r' s' → r ≡ r'
-empty-unique κs a r r' s s' p q = p ∙ sym q
+pub mq-empty-book-unique : (κs : _) (a : _) (r r' : _) (s s' : _) → empty.Post κs a r s → empty.Post κs a r' s' → r ≡ r'
+mq-empty-book-unique κs a r r' s s' p q = p ∙ sym q
 
-pub open-total : (κs : _) (a : _) → opens.Pre κs a
-open-total κs a = tt
+pub mq-open-value-total : (κs : _) (a : _) → opens.Pre κs a
+mq-open-value-total κs a = tt
 
-pub open-unique : (κs : _) (a : _) (r r' : _) (s s' : _) → opens.Post κs a r s → opens.Post κs a r' s' → r ≡ r'
-open-unique κs a r r' s s' p q = p ∙ sym q
+pub mq-open-value-unique : (κs : _) (a : _) (r r' : _) (s s' : _) → opens.Post κs a r s → opens.Post κs a r' s' → r ≡ r'
+mq-open-value-unique κs a r r' s s' p q = p ∙ sym q
 
-pub book-total : (κs : _) (a : _) → book.Pre κs a
-book-total κs a = tt
+pub mq-book-value-total : (κs : _) (a : _) → book.Pre κs a
+mq-book-value-total κs a = tt
 
-pub book-unique : (κs : _) (a : _) (r r' : _) (s s' : _) → book.Post κs a r s → book.Post κs a r' s' → r ≡ r'
-book-unique κs a r r' s s' p q = p ∙ sym q
+pub mq-book-value-unique : (κs : _) (a : _) (r r' : _) (s s' : _) → book.Post κs a r s → book.Post κs a r' s' → r ≡ r'
+mq-book-value-unique κs a r r' s s' p q = p ∙ sym q
 
-pub cancel-total : (κs : _) (a : _) → cancel.Pre κs a
-cancel-total κs a = tt
+pub mq-cancel-value-total : (κs : _) (a : _) → cancel.Pre κs a
+mq-cancel-value-total κs a = tt
 
-pub cancel-unique : (κs : _) (a : _) (r r' : _) (s s' : _) → cancel.Post κs a r s → cancel.Post κs a r' s' → r ≡ r'
-cancel-unique κs a r r' s s' p q = p ∙ sym q
+pub mq-cancel-value-unique : (κs : _) (a : _) (r r' : _) (s s' : _) → cancel.Post κs a r s → cancel.Post κs a r' s' → r ≡ r'
+mq-cancel-value-unique κs a r r' s s' p q = p ∙ sym q
 
-pub close-total : (κs : _) (a : _) → close.Pre κs a
-close-total κs a = tt
+pub mq-close-value-total : (κs : _) (a : _) → close.Pre κs a
+mq-close-value-total κs a = tt
 
-pub close-unique : (κs : _) (a : _) (r r' : _) (s s' : _) → close.Post κs a r s → close.Post κs a r' s' → r ≡ r'
-close-unique κs a r r' s s' p q = p ∙ sym q
+pub mq-close-value-unique : (κs : _) (a : _) (r r' : _) (s s' : _) → close.Post κs a r s → close.Post κs a r' s' → r ≡ r'
+mq-close-value-unique κs a r r' s s' p q = p ∙ sym q
 
-pub parts-total : (κs : _) (a : _) → parts.Pre κs a
-parts-total κs a = tt
+pub mq-parts-total : (κs : _) (a : _) → parts.Pre κs a
+mq-parts-total κs a = tt
 
-pub parts-unique : (κs : _) (a : _) (r r' : _) (s s' : _) → parts.Post κs a r s → parts.Post κs a r' s' → r ≡ r'
-parts-unique κs a r r' s s' p q = p ∙ sym q
+pub mq-parts-unique : (κs : _) (a : _) (r r' : _) (s s' : _) → parts.Post κs a r s → parts.Post κs a r' s' → r ≡ r'
+mq-parts-unique κs a r r' s s' p q = p ∙ sym q
 
-pub at-total : (κs : _) (a : _) → at.Pre κs a
-at-total κs a = tt
+pub mq-at-total : (κs : _) (a : _) → at.Pre κs a
+mq-at-total κs a = tt
 
-pub at-unique : (κs : _) (a : _) (r r' : _) (s s' : _) → at.Post κs a r s → at.Post κs a r' s' → r ≡ r'
-at-unique κs a r r' s s' p q = p ∙ sym q
+pub mq-at-unique : (κs : _) (a : _) (r r' : _) (s s' : _) → at.Post κs a r s → at.Post κs a r' s' → r ≡ r'
+mq-at-unique κs a r r' s s' p q = p ∙ sym q
 
-pub beacon-total : (κs : _) (a : _) → beacon.Pre κs a
-beacon-total κs a = tt
+pub mq-beacon-total : (κs : _) (a : _) → beacon.Pre κs a
+mq-beacon-total κs a = tt
 
-pub beacon-unique : (κs : _) (a : _) (r r' : _) (s s' : _) → beacon.Post κs a r s → beacon.Post κs a r' s' → r ≡ r'
-beacon-unique κs a r r' s s' p q = p ∙ sym q
+pub mq-beacon-unique : (κs : _) (a : _) (r r' : _) (s s' : _) → beacon.Post κs a r s → beacon.Post κs a r' s' → r ≡ r'
+mq-beacon-unique κs a r r' s s' p q = p ∙ sym q
 
-pub indicator-total : (κs : _) (a : _) → indicator.Pre κs a
-indicator-total κs a = tt
+pub mq-indicator-total : (κs : _) (a : _) → indicator.Pre κs a
+mq-indicator-total κs a = tt
 
-pub indicator-unique : (κs : _) (a : _) (r r' : _) (s s' : _) → indicator.Post κs a r s → indicator.Post κs a r' s' → r ≡ r'
-indicator-unique κs a r r' s s' p q = p ∙ sym q
+pub mq-indicator-unique : (κs : _) (a : _) (r r' : _) (s s' : _) → indicator.Post κs a r s → indicator.Post κs a r' s' → r ≡ r'
+mq-indicator-unique κs a r r' s s' p q = p ∙ sym q
 
-pub owner-total : (κs : _) (a : _) → owner.Pre κs a
-owner-total κs a = tt
+pub mq-owner-total : (κs : _) (a : _) → owner.Pre κs a
+mq-owner-total κs a = tt
 
-pub owner-unique : (κs : _) (a : _) (r r' : _) (s s' : _) → owner.Post κs a r s → owner.Post κs a r' s' → r ≡ r'
-owner-unique κs a r r' s s' p q = p ∙ sym q
+pub mq-owner-unique : (κs : _) (a : _) (r r' : _) (s s' : _) → owner.Post κs a r s → owner.Post κs a r' s' → r ≡ r'
+mq-owner-unique κs a r r' s s' p q = p ∙ sym q
 
 -- ---- calls that lend memory
 
-pub midamble-total : (κs : _) (a : _) → midamble.Pre κs a
-midamble-total κs a = tt
+pub mq-midamble-total : (κs : _) (a : _) → midamble.Pre κs a
+mq-midamble-total κs a = tt
 
-pub midamble-unique : (κs : _) (a : _) (r r' : _) (s s' : _) → midamble.Post κs a r s → midamble.Post κs a r' s' → (r ≡ r') × (now (s .1 .1 .1 .1 .0) ≡ now (s' .1 .1 .1 .1 .0))
-midamble-unique κs a r r' s s' p q = once _ r r' _ _ p q
+pub mq-midamble-unique : (κs : _) (a : _) (r r' : _) (s s' : _) → midamble.Post κs a r s → midamble.Post κs a r' s' → (r ≡ r') × (now (s .1 .1 .1 .1 .0) ≡ now (s' .1 .1 .1 .1 .0))
+mq-midamble-unique κs a r r' s s' p q = once _ r r' _ _ p q
 
-pub list-total : (κs : _) (a : _) → list.Pre κs a
-list-total κs a = tt
+pub mq-list-bytes-total : (κs : _) (a : _) → list.Pre κs a
+mq-list-bytes-total κs a = tt
 
-pub list-unique : (κs : _) (a : _) (r r' : _) (s s' : _) → list.Post κs a r s → list.Post κs a r' s' → (r ≡ r') × (now (s .1 .1 .0) ≡ now (s' .1 .1 .0))
-list-unique κs a r r' s s' p q = once _ r r' _ _ p q
+pub mq-list-bytes-unique : (κs : _) (a : _) (r r' : _) (s s' : _) → list.Post κs a r s → list.Post κs a r' s' → (r ≡ r') × (now (s .1 .1 .0) ≡ now (s' .1 .1 .0))
+mq-list-bytes-unique κs a r r' s s' p q = once _ r r' _ _ p q
 
-pub page-total : (κs : _) (a : _) → page.Pre κs a
-page-total κs a = tt
+pub mq-page-total : (κs : _) (a : _) → page.Pre κs a
+mq-page-total κs a = tt
 
-pub page-unique : (κs : _) (a : _) (r r' : _) (s s' : _) → page.Post κs a r s → page.Post κs a r' s' → (r ≡ r') × (now (s .1 .1 .1 .0) ≡ now (s' .1 .1 .1 .0))
-page-unique κs a r r' s s' p q = once _ r r' _ _ p q
+pub mq-page-unique : (κs : _) (a : _) (r r' : _) (s s' : _) → page.Post κs a r s → page.Post κs a r' s' → (r ≡ r') × (now (s .1 .1 .1 .0) ≡ now (s' .1 .1 .1 .0))
+mq-page-unique κs a r r' s s' p q = once _ r r' _ _ p q
 
-pub read-page-total : (κs : _) (a : _) → read-page.Pre κs a
-read-page-total κs a = tt
+pub mq-read-page-total : (κs : _) (a : _) → read-page.Pre κs a
+mq-read-page-total κs a = tt
 
-pub read-page-unique : (κs : _) (a : _) (r r' : _) (s s' : _) → read-page.Post κs a r s → read-page.Post κs a r' s' → (r ≡ r') × (now (s .1 .1 .1 .0) ≡ now (s' .1 .1 .1 .0))
-read-page-unique κs a r r' s s' p q = once _ r r' _ _ p q
+pub mq-read-page-unique : (κs : _) (a : _) (r r' : _) (s s' : _) → read-page.Post κs a r s → read-page.Post κs a r' s' → (r ≡ r') × (now (s .1 .1 .1 .0) ≡ now (s' .1 .1 .1 .0))
+mq-read-page-unique κs a r r' s s' p q = once _ r r' _ _ p q
 
-pub text-total : (κs : _) (a : _) → text.Pre κs a
-text-total κs a = tt
+pub mq-refusal-text-total : (κs : _) (a : _) → text.Pre κs a
+mq-refusal-text-total κs a = tt
 
-pub text-unique : (κs : _) (a : _) (r r' : _) (s s' : _) → text.Post κs a r s → text.Post κs a r' s' → (r ≡ r') × (now (s .1 .0) ≡ now (s' .1 .0))
-text-unique κs a r r' s s' p q = once _ r r' _ _ p q
+pub mq-refusal-text-unique : (κs : _) (a : _) (r r' : _) (s s' : _) → text.Post κs a r s → text.Post κs a r' s' → (r ≡ r') × (now (s .1 .0) ≡ now (s' .1 .0))
+mq-refusal-text-unique κs a r r' s s' p q = once _ r r' _ _ p q

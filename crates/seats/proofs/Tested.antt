@@ -44,14 +44,14 @@ module _ (s : Seat) (l : List Booking) (b : Bool) where
       fallen : every (standsIn s) l ≡ false → as-paired
       fallen f = simp f
 
--- n, bad and fit are what the tests gave
-pub seat-tested : (s : Seat) (n bad : ℕ) (fit : Bool)
-    → n ≡ held s → bad ≡ firstOf (settingsRefusals (s .cell) (s .case) (s .k) (s .long) (s .short))
+-- n, bare, good and fit are what the tests gave
+pub seat-tested : (s : Seat) (n : ℕ) (bare good fit : Bool)
+    → n ≡ held s → bare ≡ isBare s → good ≡ eqb (firstOf (settingsRefusals (s .cell) (s .case) (s .k) (s .long) (s .short))) 0
     → fit ≡ (every (standsIn s) (take n (s .row)) && (chain fine (take n (s .row)) && every isBlank (drop n (s .row))))
-    → ((isBare s || (s .live && eqb bad 0)) && (leb (s .count) 40 && fit)) ≡ seatOk s
+    → ((bare || (s .live && good)) && (leb (s .count) 40 && fit)) ≡ seatOk s
 unfolding seatOk goodSettings
-seat-tested s n bad fit en eb ef =
+seat-tested s n bare good fit en eb eg ef =
     let inner : fit ≡ (every (standsIn s) (bookings s) && (chain fine (bookings s) && every isBlank (drop (held s) (s .row)))) = rw (ef, en) in
-    rw eb
+    rw (eb, eg)
     (ap (λ (t : Bool). (isBare s || (s .live && eqb (firstOf (settingsRefusals (s .cell) (s .case) (s .k) (s .long) (s .short))) 0)) && (leb (s .count) 40 && t))
     (inner ∙ neighbours s (bookings s) (every isBlank (drop (held s) (s .row)))))

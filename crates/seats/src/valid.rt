@@ -1,9 +1,12 @@
 // Whether a seat meets its conditions.
 ghost use mathlib.Core.Path.{_≡_};
-ghost use mathlib.Core.Bool.{_&&_};
+ghost use mathlib.Core.Bool.{not, _&&_};
 ghost use Prim.Native.Nat.{_≤_};
+ghost use lib.Dec.{eqb};
 ghost use lib.ListN.{take, drop};
 ghost use Rattle.laws.specs.Lists.{every, chain};
+ghost use Rattle.refusals.specs.Refusals.{firstOf};
+ghost use Rattle.tables.specs.Tables.{settingsRefusals};
 ghost use Rattle.bookings.specs.Bookings.{fine};
 ghost use Rattle.seats.specs.Seats.{isBlank, stands, seatOk};
 use crate::Seat;
@@ -74,22 +77,36 @@ fn row_ok(row: [Booking; 40], n: usize, case: u8, k: u8, long: u8, short: u8) ->
     ok
 }
 
+// A closed seat has no settings and holds nothing.
+fn is_bare(live: bool, cell: u8, case: u8, k: u8, long: u8, short: u8, count: u8) -> bool
+    ensures { λ r. ⌜ r ≡ (not live && (eqb cell 0 && (eqb case 0 && (eqb k 0 && (eqb long 0 && (eqb short 0 && eqb count 0)))))) ⌝ }
+{
+    !live
+        & ((cell == 0) & ((case == 0) & ((k == 0) & ((long == 0) & ((short == 0) & (count == 0))))))
+}
+
+// An open seat's settings pass 1, 3 (no 0 left) and 9.
+fn settings_pass(cell: u8, case: u8, k: u8, long: u8, short: u8) -> bool
+    ensures { λ r. ⌜ r ≡ eqb (firstOf (settingsRefusals cell case k long short)) 0 ⌝ }
+{
+    let n = tables::settings_refusal(
+        cell as u32,
+        case as u32,
+        k as u32,
+        long as u32,
+        short as u32,
+    );
+    n == 0
+}
+
 // Whether a seat meets its conditions.
 pub fn seat_ok(s: Seat) -> bool
     ensures { λ r. ⌜ r ≡ seatOk s ⌝ }
 {
     let row = s.row;
     let n = crate::held_by(s.count);
-    let bare = !s.live
-        & ((s.cell == 0)
-            & ((s.case == 0) & ((s.k == 0) & ((s.long == 0) & ((s.short == 0) & (s.count == 0))))));
-    let bad = tables::settings_refusal(
-        s.cell as u32,
-        s.case as u32,
-        s.k as u32,
-        s.long as u32,
-        s.short as u32,
-    );
+    let bare = is_bare(s.live, s.cell, s.case, s.k, s.long, s.short, s.count);
+    let good = settings_pass(s.cell, s.case, s.k, s.long, s.short);
     let fit = row_ok(row, n, s.case, s.k, s.long, s.short);
-    (bare | (s.live & (bad == 0))) & ((s.count <= 40) & fit)
+    (bare | (s.live & good)) & ((s.count <= 40) & fit)
 }

@@ -78,45 +78,51 @@ or-refused-requires c κs = search needs
 or-refused-requires-2 : tie.Need-or-refused-requires-2
 or-refused-requires-2 c κs = search needs
 
--- the refusal that was found is the table's first
-found : (c : tie.After-or-refused2) → let a = c .before .before .before .before .before .before .args in c .or-refused2 .result ≡ firstOf (indicatorRefusals (a .burst) (a .length) (a .frames) (a .number))
-found c =
+-- the refusal that was found, by the test that the table asks for, is the table's first
+abbrev Tested : tie.After-or-refused2 → Type 0
+Tested c =
+    let d = c .before .before .before in
+    let a = d .before .before .before .args in
+    c .or-refused2 .result ≡ orRefused (c .before .or-refused .result) 10 (leb (d .before .per-frame .result * a .frames) (a .number))
+
+found : (c : tie.After-or-refused2) → Tested c → let a = c .before .before .before .before .before .before .args in c .or-refused2 .result ≡ firstOf (indicatorRefusals (a .burst) (a .length) (a .frames) (a .number))
+found c t =
     let d = c .before .before .before in
     first _ _ _ _ _ _ _ _ _ _ (d .before .before .half-of .ensures) (d .before .per-frame .ensures) (d .pich-refusal .ensures)
-    (c .before .before .bad-frames .ensures) (c .before .or-refused .ensures) (c .or-refused2 .ensures)
+    (c .before .before .bad-frames .ensures) (c .before .or-refused .ensures) t
 
 returns : tie.Need-returns
-returns c = is-refused _ _ _ _ _ (found (c .before)) (c .if1 .taken)
+returns c = is-refused _ _ _ _ _ (found (c .before) (c .before .or-refused2 .ensures)) (c .if1 .taken)
 
 -- past the test: a frame holds some, and the runs are small
-told : (c : tie.Else1)
+told : (c : tie.Else1) → Tested (c .before)
     → let d = c .before .before .before .before in
     let per = d .before .per-frame .result in
     let args = d .before .before .before .args in
     (1 ≤ per) × (d .before .before .half-of .result + args .length * (args .number % per) + args .length ≤ 272)
-told c =
+told c t =
     let d = c .before .before .before .before in
-    small _ _ _ _ _ (found (c .before)) (c .if1 .left) _ _ (d .before .before .half-of .ensures) (d .before .per-frame .ensures)
+    small _ _ _ _ _ (found (c .before) t) (c .if1 .left) _ _ (d .before .before .half-of .ensures) (d .before .per-frame .ensures)
 
 rem-q : tie.Need-rem-q
-rem-q c = told c .0
+rem-q c = told c (c .before .or-refused2 .ensures) .0
 
 div-t15 : tie.Need-div-t15
-div-t15 c = told c .0
+div-t15 c = told c (c .before .or-refused2 .ensures) .0
 
 mul-t16 : tie.Need-mul-t16
-mul-t16 c = omega (arith, told c .1)
+mul-t16 c = omega (arith, told c (c .before .or-refused2 .ensures) .1)
 
 mul-t17 : tie.Need-mul-t17
-mul-t17 c = omega (arith, told c .1)
+mul-t17 c = omega (arith, told c (c .before .or-refused2 .ensures) .1)
 
 add-t18 : tie.Need-add-t18
-add-t18 c = omega (arith, told c .1)
+add-t18 c = omega (arith, told c (c .before .or-refused2 .ensures) .1)
 
 returns-2 : tie.Need-returns-2
 returns-2 c =
     let d = c .before .before .before .before in
-    is-placed _ _ _ _ _ (found (c .before)) (c .if1 .left) _ _ (d .before .before .half-of .ensures) (d .before .per-frame .ensures)
+    is-placed _ _ _ _ _ (found (c .before) (c .before .or-refused2 .ensures)) (c .if1 .left) _ _ (d .before .before .half-of .ensures) (d .before .per-frame .ensures)
 
 pub indicator-spec : {M : Type 1} → statement M
 indicator-spec =

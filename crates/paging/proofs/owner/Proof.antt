@@ -53,34 +53,39 @@ add-or-refused c = omega (arith, half-high (c .before .before .args .burst))
 or-refused-requires : tie.Need-or-refused-requires
 or-refused-requires c κs = search needs
 
--- the refusal that was found is the table's first
-found : (c : tie.After-or-refused) → let a = c .before .before .before .args in c .or-refused .result ≡ firstOf (ownerRefusals (a .burst) (a .length) (a .bit))
-found c = first _ _ _ _ _ _ (c .before .before .half-of .ensures) (c .before .pich-refusal .ensures) (c .or-refused .ensures)
+-- the refusal that was found, by the test that the table asks for, is the table's first
+abbrev Tested : tie.After-or-refused → Type 0
+Tested c =
+    let a = c .before .before .before .args in
+    c .or-refused .result ≡ orRefused (c .before .pich-refusal .result) 10 (leb (bitsIn (c .before .before .half-of .result)) (a .bit))
+
+found : (c : tie.After-or-refused) → Tested c → let a = c .before .before .before .args in c .or-refused .result ≡ firstOf (ownerRefusals (a .burst) (a .length) (a .bit))
+found c t = first _ _ _ _ _ _ (c .before .before .half-of .ensures) (c .before .pich-refusal .ensures) t
 
 returns : tie.Need-returns
-returns c = is-refused _ _ _ _ (found (c .before)) (c .if1 .taken)
+returns c = is-refused _ _ _ _ (found (c .before) (c .before .or-refused .ensures)) (c .if1 .taken)
 
 div-t10 : tie.Need-div-t10
-div-t10 c = length-low _ _ _ _ (found (c .before .before)) (c .before .if1 .left)
+div-t10 c = length-low _ _ _ _ (found (c .before .before) (c .before .before .or-refused .ensures)) (c .before .if1 .left)
 
 -- what is answered past the tests
-told : (c : tie.Else1) (o : Owner) → let a = c .before .before .before .before .args in ownerAt (a .length) (c .before .before .before .half-of .result) (a .bit) ≡ o → answered o ≡ ownerAnswer (a .burst) (a .length) (a .bit)
-told c o v = is-answered _ _ _ _ (found (c .before)) (c .if1 .left) _ (c .before .before .before .half-of .ensures) o v
+told : (c : tie.Else1) → Tested (c .before) → (o : Owner) → let a = c .before .before .before .before .args in ownerAt (a .length) (c .before .before .before .half-of .result) (a .bit) ≡ o → answered o ≡ ownerAnswer (a .burst) (a .length) (a .bit)
+told c t o v = is-answered _ _ _ _ (found (c .before) t) (c .if1 .left) _ (c .before .before .before .half-of .ensures) o v
 
 returns-2 : tie.Need-returns-2
 unfolding saidOwner
-returns-2 c = told (c .before) _ (owner-first _ _ _ (c .if2 .taken))
+returns-2 c = told (c .before) (c .before .before .or-refused .ensures) _ (owner-first _ _ _ (c .if2 .taken))
 
 returns-3 : tie.Need-returns-3
 unfolding saidOwner
-returns-3 c = told (c .before .before) _ (owner-between _ _ _ (c .before .if2 .left) (c .if3 .taken))
+returns-3 c = told (c .before .before) (c .before .before .before .or-refused .ensures) _ (owner-between _ _ _ (c .before .if2 .left) (c .if3 .taken))
 
 div-t11 : tie.Need-div-t11
-div-t11 c = length-low _ _ _ _ (found (c .before .before .before)) (c .before .before .if1 .left)
+div-t11 c = length-low _ _ _ _ (found (c .before .before .before) (c .before .before .before .or-refused .ensures)) (c .before .before .if1 .left)
 
 returns-4 : tie.Need-returns-4
 unfolding saidOwner
-returns-4 c = told (c .before .before) _ (owner-second _ _ _ (c .if3 .left))
+returns-4 c = told (c .before .before) (c .before .before .before .or-refused .ensures) _ (owner-second _ _ _ (c .if3 .left))
 
 pub owner-spec : {M : Type 1} → statement M
 owner-spec =

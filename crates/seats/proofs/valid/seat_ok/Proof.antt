@@ -9,41 +9,27 @@ use Rattle.seats.proofs.valid.seat_ok.Tie as tie
 held-by-requires : tie.Need-held-by-requires
 held-by-requires c κs = search needs
 
-cast-settings-refusal : tie.Need-cast-settings-refusal
-cast-settings-refusal c = search needs
+is-bare-requires : tie.Need-is-bare-requires
+is-bare-requires c κs = search needs
 
-cast-settings-refusal-2 : tie.Need-cast-settings-refusal-2
-cast-settings-refusal-2 c = search needs
-
-cast-settings-refusal-3 : tie.Need-cast-settings-refusal-3
-cast-settings-refusal-3 c = search needs
-
-cast-settings-refusal-4 : tie.Need-cast-settings-refusal-4
-cast-settings-refusal-4 c = search needs
-
-cast-settings-refusal-5 : tie.Need-cast-settings-refusal-5
-cast-settings-refusal-5 c = search needs
-
-settings-refusal-requires : tie.Need-settings-refusal-requires
-settings-refusal-requires c κs = search needs
+settings-pass-requires : tie.Need-settings-pass-requires
+settings-pass-requires c κs = search needs
 
 row-ok-requires : tie.Need-row-ok-requires
-row-ok-requires c κs = c .before .before .before .before .before .before .before .before .before .before .before .before .before .held-by .ensures .1
+row-ok-requires c κs = c .before .before .held-by .ensures .1
 
 returns : tie.Need-returns
 unfolding isBare
-returns c = seat-tested _ _ _ _ (c .before .before .before .before .before .before .before .before .before .before .before .before .before .before .before .before .held-by .ensures .0) (c .before .before .before .settings-refusal .ensures) (c .before .before .row-ok .ensures)
+returns c =
+    let f = c .before .before in
+    seat-tested _ _ _ _ _ (f .before .before .before .held-by .ensures .0) (f .before .before .is-bare .ensures) (f .before .settings-pass .ensures) (f .row-ok .ensures)
 
 pub seat-ok-spec : {M : Type 1} → statement M
 seat-ok-spec =
     tie.close
     (tie.spec
     held-by-requires
-    cast-settings-refusal
-    cast-settings-refusal-2
-    cast-settings-refusal-3
-    cast-settings-refusal-4
-    cast-settings-refusal-5
-    settings-refusal-requires
+    is-bare-requires
+    settings-pass-requires
     row-ok-requires
     returns)

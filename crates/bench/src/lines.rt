@@ -9,16 +9,17 @@ use classbook::Book;
 use lesson_words::words;
 
 // What goes on from line to line: the book; how many lines there were; how many bytes of the next one are gathered, 1024 standing for any that are too many;
-// and the place of the next byte of output.
+// the place of the next byte of output; and whether each line is written before its reply.
 pub struct Session {
     pub book: Book,
     pub number: u64,
     pub length: usize,
     pub at: usize,
+    pub echo: bool,
 }
 
 // The book is empty, and nothing was read.
-pub fn start() -> Session
+pub fn start(echo: bool) -> Session
     ensures { λ r. ⌜ r .book ≡ emptyBook ⌝ }
 {
     let book = classbook::empty_book();
@@ -27,6 +28,21 @@ pub fn start() -> Session
         number: 0,
         length: 0,
         at: 0,
+        echo,
+    }
+}
+
+// A session with the next byte of output at this place.
+fn going_on(s: Session, at: usize) -> Session
+    ensures { λ r. ⌜ r .book ≡ s .book ⌝ }
+{
+    let book = s.book;
+    Session {
+        book,
+        number: s.number,
+        length: s.length,
+        at,
+        echo: s.echo,
     }
 }
 
@@ -35,13 +51,15 @@ pub fn written(out: &[u8; 4096], s: Session) -> Session
     ensures { λ r. ⌜ r .book ≡ s .book ⌝ }
 {
     let at = printing::flush(out, s.at);
-    let book = s.book;
-    Session {
-        book,
-        number: s.number,
-        length: s.length,
-        at,
-    }
+    going_on(s, at)
+}
+
+// Where somebody types: a prompt behind the replies so far.
+pub fn prompted(out: &mut [u8; 4096], s: Session) -> Session
+    ensures { λ r. ⌜ r .book ≡ s .book ⌝ }
+{
+    let at = printing::word(out, s.at, b"> ");
+    going_on(s, at)
 }
 
 // Puts bytes behind those of the line that are there, as far as there is room.
@@ -56,6 +74,21 @@ fn gathered(line: &mut [u8; 1024], held: usize, bytes: &[u8]) -> usize {
         i += 1;
     }
     n
+}
+
+// The line before its reply, as far as it was gathered, if that is asked for.
+fn echoed(
+    line: &[u8],
+    held: usize,
+    out: &mut [u8; 4096],
+    at: usize,
+    number: u64,
+    echo: bool,
+) -> usize {
+    if echo & (held <= line.len()) {
+        return say::echoed(out, at, number, &line[..held]);
+    }
+    at
 }
 
 // The line's bytes, answered.
@@ -75,18 +108,20 @@ fn answered(line: &[u8; 1024], held: usize, out: &mut [u8; 4096], s: Session) ->
 {
     let b = s.book;
     let number = std::num::wrapping_add_u64(s.number, 1);
-    let t = reply(line, held, out, s.at, number, b);
+    let at = echoed(line, held, out, s.at, number, s.echo);
+    let t = reply(line, held, out, at, number, b);
     let book = t.book;
     Session {
         book,
         number,
         length: 0,
         at: t.at,
+        echo: s.echo,
     }
 }
 
 // A session with so many bytes of the next line.
-fn holding(s: Session, held: usize) -> Session
+pub fn holding(s: Session, held: usize) -> Session
     ensures { λ r. ⌜ r .book ≡ s .book ⌝ }
 {
     let book = s.book;
@@ -95,6 +130,7 @@ fn holding(s: Session, held: usize) -> Session
         number: s.number,
         length: held,
         at: s.at,
+        echo: s.echo,
     }
 }
 

@@ -46,19 +46,12 @@ fn going_on(s: Session, at: usize) -> Session
     }
 }
 
-// Writes out the replies so far.
-pub fn written(out: &[u8; 4096], s: Session) -> Session
+// Writes out the replies so far, and a prompt where somebody types.
+pub fn waiting(out: &mut [u8; 4096], s: Session, typed: bool) -> Session
     ensures { λ r. ⌜ r .book ≡ s .book ⌝ }
 {
-    let at = printing::flush(out, s.at);
-    going_on(s, at)
-}
-
-// Where somebody types: a prompt behind the replies so far.
-pub fn prompted(out: &mut [u8; 4096], s: Session) -> Session
-    ensures { λ r. ⌜ r .book ≡ s .book ⌝ }
-{
-    let at = printing::word(out, s.at, b"> ");
+    let n = say::prompt(out, s.at, typed);
+    let at = printing::flush(out, n);
     going_on(s, at)
 }
 
@@ -85,8 +78,10 @@ fn echoed(
     number: u64,
     echo: bool,
 ) -> usize {
-    if echo & (held <= line.len()) {
-        return say::echoed(out, at, number, &line[..held]);
+    if echo {
+        if held <= line.len() {
+            return say::echoed(out, at, number, &line[..held]);
+        }
     }
     at
 }
@@ -121,7 +116,7 @@ fn answered(line: &[u8; 1024], held: usize, out: &mut [u8; 4096], s: Session) ->
 }
 
 // A session with so many bytes of the next line.
-pub fn holding(s: Session, held: usize) -> Session
+fn holding(s: Session, held: usize) -> Session
     ensures { λ r. ⌜ r .book ≡ s .book ⌝ }
 {
     let book = s.book;
@@ -148,4 +143,13 @@ pub fn block(bytes: &[u8], line: &mut [u8; 1024], out: &mut [u8; 4096], s: Sessi
         from = end + 1;
     }
     t
+}
+
+// Nothing more comes. At the end of the input a line may stand that has no LF; what is left of one anywhere else is none.
+pub fn last(line: &[u8; 1024], out: &mut [u8; 4096], s: Session, ended: bool) -> Session {
+    let held = s.length;
+    if ended & (held > 0) {
+        return answered(line, held, out, s);
+    }
+    s
 }

@@ -25,6 +25,14 @@ pub fn done(out: &mut [u8; 4096], at: usize, refusal: u32) -> usize {
     refused(out, at, refusal)
 }
 
+// What somebody who types sees before each line.
+pub fn prompt(out: &mut [u8; 4096], at: usize, typed: bool) -> usize {
+    if typed {
+        return printing::word(out, at, b"> ");
+    }
+    at
+}
+
 // A line of a lesson with its number, as it stands before its reply.
 pub fn echoed(out: &mut [u8; 4096], at: usize, number: u64, line: &[u8]) -> usize {
     let n = printing::number(out, at, number);

@@ -87,6 +87,9 @@ def echo():
     lines = ran.stdout.splitlines()
     holds('each line stands with its number before its reply', lines[:6] == [b'1> # a plan', b'2> ', b'3> open 3 0 1 0 0 0   # seat 3', b'ok', b'4> list 3', b'list 0'], lines)
     holds('also the last', lines[6] == b'5> frobnicate' and lines[7].startswith(b'line 5: '), lines)
+    ended('and no line behind the last LF', run('--echo', given=b'beacon 2 6\n'), 0, b'1> beacon 2 6\nbeacon 6 14\n')
+    long = run('--echo', given=b'#' * 2000).stdout
+    holds('of a line that is too long so much that it can be seen', long.startswith(b'1> ' + b'#' * 1024 + b'\nline 1: '), long)
 
 
 def marks():
@@ -141,6 +144,12 @@ def failures():
 
 
 def terminal():
+    for last, what in ((b'quit\n', 'quit'), (b' quit \n', 'quit between blanks'), (b'\x04', 'the end of the input')):
+        typed(last, what)
+    holds('no prompt where the input is no terminal', run(given=b'beacon 2 6\n').stdout == b'beacon 6 14\n')
+
+
+def typed(last, what):
     pid, fd = pty.fork()
     if pid == 0:
         os.execv(BENCH, [BENCH])
@@ -161,11 +170,10 @@ def terminal():
     holds('the greeting says how to get help', b'help' in until(b'> '))
     os.write(fd, b'beacon 2 6\n')
     until(b'beacon 6 14\r\n> ')
-    os.write(fd, b'quit\n')
+    os.write(fd, last)
     ended_by = os.waitpid(pid, 0)[1]
-    holds('quit ends it with 0', ended_by == 0, ended_by)
+    holds(f'{what} ends it with 0', ended_by == 0, ended_by)
     os.close(fd)
-    holds('no prompt where the input is no terminal', run(given=b'beacon 2 6\n').stdout == b'beacon 6 14\n')
 
 
 def elsewhere():

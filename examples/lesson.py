@@ -1,6 +1,6 @@
 """A lesson over the Python module: a midamble, the parts of a timeslot, the class book, and refusals with their words.
 
-    PYTHONPATH=python python3 examples/lesson.py
+    PYTHONPATH=python python3 examples/lesson.py      after examples/run, which builds the library
 """
 import copy
 import pickle
@@ -45,11 +45,11 @@ def questions():
 
     print('uplink type 1, factor 8, TFCI 16, TPC 2:')
     parts = mqarbset.parts(1, UP, 8, 16, 2)
-    for name, span in zip(mqarbset.PARTS, parts.spans):
-        print(f'  {name:8} from {span.start:4}, {span.length:4} chips')
+    for part, span in parts.spans.items():
+        print(f'  {part.name:8} from {span.start:4}, {span.length:4} chips')
     print(f'  data bits {parts.bits[0]} and {parts.bits[1]}')
-    tried('at chip 1500', mqarbset.at, 1, UP, 8, 16, 2, 1500)
-    tried('direction 2', mqarbset.at, 1, 2, 8, 16, 2, 1500)
+    tried('at chip 1500', lambda: mqarbset.at(1, UP, 8, 16, 2, chip=1500))
+    tried('direction 2', lambda: mqarbset.at(1, 2, 8, 16, 2, chip=1500))
     tried('a factor beyond 32 bits', mqarbset.parts, 1, UP, 2 ** 32 + 8, 16, 2)
 
     tried('beacon timeslots of case 2, k 6', mqarbset.beacon, 2, 6)
@@ -66,6 +66,7 @@ def class_book():
     tried('open seat 3', book.open, 3, 0, 1, 0)
     tried('book (16, 3) for user 4 in timeslot 2', book.book, 3, 2, DOWN, 1, 16, 3, 4)
     tried('book (16, 1) for user 1 in timeslot 0', book.book, 3, 0, DOWN, 1, 16, 1, 1)
+    print(f'{book}')
     for booking in book.list(3):
         print(f'  {booking}')
 
@@ -73,13 +74,13 @@ def class_book():
     lines = kept(book, 3, 0, 1, 0, 16, 6)
     for line in lines:
         print(f'  {line}')
-    print(f'the book made again from these lines: {"the same plan" if made_again(lines).list(3) == book.list(3) else "another plan"}')
+    print(f'the book made again from these lines: {"the same" if made_again(lines) == book else "another"}')
 
     # Copies in memory, each a book of its own.
     before, deep = copy.copy(book), copy.deepcopy(book)
     tried('book (1, 1) in timeslot 2', book.book, 3, 2, DOWN, 1, 1, 1, 5)
     tried('book in direction 7', book.book, 3, 2, 7, 1, 16, 5, 5)
-    print(f'the book after both: {"the same plan" if book.list(3) == before.list(3) else "changed"}')
+    print(f'the book after both: {"the same" if book == before else "changed"}')
     tried('cancel (16, 3) in timeslot 2', book.cancel, 3, 2, 16, 3)
     tried('seat 3 now', book.list, 3)
     tried('close seat 3', book.close, 3)

@@ -9,7 +9,12 @@
  * Lent memory is a pointer and a length; it may be longer than needed (only the first places are read or written) and must not overlap other
  * lent memory that is written. The pointer may be NULL where the length is 0.
  *
- * Link with -lmqarbset (pkg-config mqarbset). x86-64 only. No call keeps anything between calls, so any thread may call any of them.
+ * Link with -lmqarbset (pkg-config mqarbset). x86-64 only.
+ *
+ * Threads: no call keeps anything between calls, so any thread may call any of them at any time, on books of its own and memory of its own,
+ * without a lock. A book that threads share needs the caller's lock around every call on it, a list too: the book is read, changed and stored
+ * again, and two calls at once can leave bytes that are no book, which every later call refuses with 12.
+ * Stack: each call says how much it takes at most, with the few frames of this header; a thread needs that and its own.
  */
 #ifndef MQARBSET_H
 #define MQARBSET_H
@@ -28,6 +33,19 @@ extern "C" {
 #else
 #define MQ_MUST_USE
 #endif
+
+/* ---- version ---------------------------------------------------------------------------------------------------------------------------- */
+
+#define MQ_VERSION_MAJOR 0
+#define MQ_VERSION_MINOR 2
+#define MQ_VERSION_PATCH 0
+#define MQ_VERSION 200          /* major times 10000, minor times 100, patch */
+#define MQ_ABI 1                /* libmqarbset.so.MQ_ABI; it changes when the book's size or a call's parameters do */
+
+/* The library that runs, beside the header that a program was compiled with: MQ_VERSION there, and the bytes of a book there. A program that is
+ * linked with another mq_book_bytes() than MQ_BOOK_BYTES must not hand over a book. Stack: 1 KB. */
+MQ_MUST_USE uint32_t mq_version(void);
+MQ_MUST_USE uint32_t mq_book_bytes(void);
 
 /* ---- sizes and limits ------------------------------------------------------------------------------------------------------------------- */
 
@@ -111,10 +129,10 @@ typedef struct mq_answer {
 /* The words of a refusal, exactly document 01's, as ASCII without a NUL, into the first places of `out`.
  *   number   any; a number that is no refusal's has no words
  *   out      `length` bytes; further bytes stay as they were
- * Value: how many bytes were written, 0 where there are no words. Refusal: 11. */
+ * Value: how many bytes were written, 0 where there are no words. Refusal: 11. Stack: 2 KB. */
 MQ_MUST_USE mq_answer mq_refusal_text(uint32_t number, unsigned char *out, size_t length);
 
-/* The same as a C string, in memory of at least MQ_REFUSAL_TEXT_BYTES. Returns `text`. */
+/* The same as a C string, in memory of at least MQ_REFUSAL_TEXT_BYTES. Returns `text`. Stack: 2 KB. */
 static inline char *mq_refusal_string(uint32_t number, char *text)
 {
     mq_answer words = mq_refusal_text(number, (unsigned char *)text, MQ_REFUSAL_TEXT_BYTES - 1);
@@ -130,12 +148,12 @@ static inline char *mq_refusal_string(uint32_t number, char *text)
  *   count    midambles in the cell: 8 or 16 (types 1, 3), 3 or 6 (type 2)
  *   user     1 to count
  *   chip     from 1 to MQ_LONG_MIDAMBLE, or MQ_SHORT_MIDAMBLE for type 2
- * Value: 0 to 3. Refusals: 1, 2, 3, 4, 10. */
+ * Value: 0 to 3. Refusals: 1, 2, 3, 4, 10. Stack: 9 KB. */
 MQ_MUST_USE mq_answer mq_midamble_chip(uint32_t cell, uint32_t burst, uint32_t count, uint32_t user, uint32_t chip);
 
 /* All chips of a user's midamble, a byte each, from chip 1 on.
  *   out      at least 512 bytes, or 256 for type 2; further bytes stay as they were
- * Value: how many bytes were written, 512 or 256. Refusals: 1, 2, 3, 4, 11. */
+ * Value: how many bytes were written, 512 or 256. Refusals: 1, 2, 3, 4, 11. Stack: 9 KB. */
 MQ_MUST_USE mq_answer mq_midamble(uint32_t cell, uint32_t burst, uint32_t count, uint32_t user, unsigned char *out, size_t length);
 
 /* ---- timeslots -------------------------------------------------------------------------------------------------------------------------- */
@@ -155,7 +173,7 @@ typedef struct mq_parts_answer {
  *   factor     spreading factor: 1, 2, 4, 8 or 16; downlink 1 or 16
  *   tfci       TFCI bits: 0, 4, 8, 16 or 32
  *   tpc        TPC bits: 0 or 2; downlink 0
- * Refusals: 2, 6, 7, 8. */
+ * Refusals: 2, 6, 7, 8. Stack: 1 KB. */
 MQ_MUST_USE mq_parts_answer mq_parts(uint32_t burst, uint32_t direction, uint32_t factor, uint32_t tfci, uint32_t tpc);
 
 /* What lies at a chip: a part (enum mq_part, from 1) and the symbol's number in it; in midamble and guard the chip's offset. Symbol numbers
@@ -168,7 +186,7 @@ typedef struct mq_place {
 
 /* What lies at a chip of a timeslot.
  *   chip       0 to 2559; the others as for mq_parts
- * Refusals: 2, 6, 7, 8, 10. */
+ * Refusals: 2, 6, 7, 8, 10. Stack: 1 KB. */
 MQ_MUST_USE mq_place mq_at(uint32_t burst, uint32_t direction, uint32_t factor, uint32_t tfci, uint32_t tpc, uint32_t chip);
 
 /* The beacon timeslots of a frame: how many, 1 or 2, and which; what is not there is 0. */
@@ -181,7 +199,7 @@ typedef struct mq_beacons {
 
 /*   sync       synchronisation case, 1 or 2
  *   k          0 to 14 in case 1, 0 to 6 in case 2
- * Refusal: 9. */
+ * Refusal: 9. Stack: 1 KB. */
 MQ_MUST_USE mq_beacons mq_beacon(uint32_t sync, uint32_t k);
 
 /* ---- paging bits ------------------------------------------------------------------------------------------------------------------------ */
@@ -201,7 +219,7 @@ typedef struct mq_indicator_answer {
  *   length     indicator length in symbols: 2, 4 or 8
  *   frames     frames per block: 1 to 4
  *   number     below N times frames, where a frame holds N indicators: 60, 30, 15 (type 1) or 68, 34, 17 (type 2) for length 2, 4, 8
- * Refusals: 2, 10. */
+ * Refusals: 2, 10. Stack: 1 KB. */
 MQ_MUST_USE mq_indicator_answer mq_indicator(uint32_t burst, uint32_t length, uint32_t frames, uint32_t number);
 
 /* Who owns a paging bit: `reserved` is 1, or it is 0 and the bit belongs to indicator q of its frame. */
@@ -212,19 +230,19 @@ typedef struct mq_owner_answer {
 } mq_owner_answer;
 
 /*   bit        its place in time order, from 0: below 244, or 276 for type 2
- * Refusals: 2, 10. */
+ * Refusals: 2, 10. Stack: 1 KB. */
 MQ_MUST_USE mq_owner_answer mq_owner(uint32_t burst, uint32_t length, uint32_t bit);
 
 /* One frame's paging bits, a byte of 0 or 1 each, in time order.
  *   settings   at least N bytes, one for each indicator: 0 is off, any other is on
  *   out        at least 244 bytes, or 276 for type 2; further bytes stay as they were
- * Value: how many bytes were written. Refusals: 2, 10, 11. */
+ * Value: how many bytes were written. Refusals: 2, 10, 11. Stack: 1 KB. */
 MQ_MUST_USE mq_answer mq_page(uint32_t burst, uint32_t length, const unsigned char *settings, size_t settings_length, unsigned char *out, size_t out_length);
 
 /* The indicators of one frame's paging bits, a byte (enum mq_reading) each.
  *   bits       at least 244 bytes, or 276 for type 2, in time order: 0 is 0, any other is 1
  *   out        at least N bytes; further bytes stay as they were
- * Value: N, how many bytes were written. Refusals: 2, 10, 11. */
+ * Value: N, how many bytes were written. Refusals: 2, 10, 11. Stack: 1 KB. */
 MQ_MUST_USE mq_answer mq_read_page(uint32_t burst, uint32_t length, const unsigned char *bits, size_t bits_length, unsigned char *out, size_t out_length);
 
 /* ---- the class book --------------------------------------------------------------------------------------------------------------------- */
@@ -255,10 +273,10 @@ typedef struct mq_book_answer {
     mq_book book;
 } mq_book_answer;
 
-/* An empty book. */
+/* An empty book. Stack: 6 KB. */
 MQ_MUST_USE mq_book mq_empty_book(void);
 
-/* The calls by value, as the library has them; a C program rather uses those below. */
+/* The calls by value, as the library has them; a C program rather uses those below, which say how much stack they take. */
 MQ_MUST_USE mq_book_answer mq_open_value(mq_book book, uint32_t seat, uint32_t cell, uint32_t sync, uint32_t k, uint32_t long_count, uint32_t short_count);
 MQ_MUST_USE mq_book_answer mq_book_value(mq_book book, uint32_t seat, uint32_t timeslot, uint32_t direction, uint32_t burst, uint32_t factor, uint32_t index,
                                          uint32_t user, uint32_t tfci, uint32_t tpc);
@@ -293,7 +311,7 @@ static inline uint32_t mq_taken(mq_book *book, const mq_book_answer *answer)
  *   sync, k      synchronisation case and its k, as for mq_beacon
  *   long_count   midambles of types 1 and 3: 8, 16, or 0 for 16
  *   short_count  midambles of type 2: 3, 6, or 0 for 6
- * Refusals: 1, 3, 9, 12, 13, 15. */
+ * Refusals: 1, 3, 9, 12, 13, 15. Stack: 48 KB. */
 MQ_MUST_USE static inline uint32_t mq_open(mq_book *book, uint32_t seat, uint32_t cell, uint32_t sync, uint32_t k, uint32_t long_count, uint32_t short_count)
 {
     mq_book_answer answer = mq_open_value(mq_held(book), seat, cell, sync, k, long_count, short_count);
@@ -309,7 +327,7 @@ MQ_MUST_USE static inline uint32_t mq_open(mq_book *book, uint32_t seat, uint32_
  *   index        1 to factor
  *   user         1 to the seat's count of the burst type
  *   tfci, tpc    TFCI and TPC bits, as for mq_parts
- * Refusals: 2, 4 to 8, 12 to 14, 16 to 20. */
+ * Refusals: 2, 4 to 8, 12 to 14, 16 to 20. Stack: 48 KB. */
 MQ_MUST_USE static inline uint32_t mq_book_code(mq_book *book, uint32_t seat, uint32_t timeslot, uint32_t direction, uint32_t burst, uint32_t factor, uint32_t index,
                                                 uint32_t user, uint32_t tfci, uint32_t tpc)
 {
@@ -318,14 +336,14 @@ MQ_MUST_USE static inline uint32_t mq_book_code(mq_book *book, uint32_t seat, ui
 }
 
 /* Cancels the booking of a seat that is named by timeslot and code; the numbers as for mq_book_code.
- * Refusals: 5, 6, 12, 13, 14, 21. */
+ * Refusals: 5, 6, 12, 13, 14, 21. Stack: 48 KB. */
 MQ_MUST_USE static inline uint32_t mq_cancel(mq_book *book, uint32_t seat, uint32_t timeslot, uint32_t factor, uint32_t index)
 {
     mq_book_answer answer = mq_cancel_value(mq_held(book), seat, timeslot, factor, index);
     return mq_taken(book, &answer);
 }
 
-/* Closes a seat: its bookings and its settings go. Refusals: 12, 13, 14. */
+/* Closes a seat: its bookings and its settings go. Refusals: 12, 13, 14. Stack: 48 KB. */
 MQ_MUST_USE static inline uint32_t mq_close(mq_book *book, uint32_t seat)
 {
     mq_book_answer answer = mq_close_value(mq_held(book), seat);
@@ -335,7 +353,7 @@ MQ_MUST_USE static inline uint32_t mq_close(mq_book *book, uint32_t seat)
 /* Lists a seat's bookings, by timeslot, then by the first leaf of their codes. The book stays as it is.
  *   records      at least MQ_LIST_RECORDS records; those behind the bookings stay as they were
  *   count        how many records are lent
- * Value: how many bookings were written. Refusals: 11, 12, 13, 14. */
+ * Value: how many bookings were written. Refusals: 11, 12, 13, 14. Stack: 33 KB. */
 MQ_MUST_USE static inline mq_answer mq_list(const mq_book *book, uint32_t seat, mq_booking *records, size_t count)
 {
     size_t lent = count < MQ_LIST_RECORDS ? count : MQ_LIST_RECORDS;

@@ -1,52 +1,87 @@
-"""mqarbset for Python: midambles, timeslot parts, beacon timeslots, paging bits and the class book of the 3.84 Mcps option of 3GPP TS 25.221.
+"""mqarbset for Python: midambles, timeslot parts, beacon timeslots, paging bits and the class book
+of the 3.84 Mcps option of 3GPP TS 25.221.
 
-Over the C interface (include/mqarbset.h has every parameter with its range), with ctypes of the standard library only. A call that is refused raises
-Refused, which has document 01's number and words; the book is then as it was. The library does all the work and is proved; this module is not.
+Over the C interface (include/mqarbset.h), with ctypes of the standard library only. A call that is
+refused raises Refused, which has document 01's number and words; the book is then as it was. Whole
+numbers of any size may be handed in, and the library refuses what it must; what is no whole number,
+or no bytes where bytes are expected, is a TypeError that names the parameter. The library does all
+the work and is proved; this module is not.
 
-The shared library is the one that MQARBSET_LIBRARY names, or the one that was installed or built with this file, or what the system finds as mqarbset.
+The shared library is the one that MQARBSET_LIBRARY names, or the one that install.sh installed with
+this file, or, in a checkout, the one that examples/run built; no other is looked for.
 """
 import ctypes
-import ctypes.util
+import enum
+import operator
 import os
 import pathlib
-from typing import List, NamedTuple
+import threading
+from typing import Dict, List, NamedTuple, Optional, Tuple
+
+__all__ = [
+    'UP', 'DOWN', 'OFF', 'ON', 'TORN', 'Part', 'Span', 'Parts', 'Place', 'Indicator', 'Booking', 'Book', 'Refused',
+    'refusal_text', 'midamble_chip', 'midamble', 'parts', 'at', 'beacon', 'indicator', 'owner', 'page', 'read_page',
+]
+__version__ = '0.2.0'
 
 UP, DOWN = 0, 1
 OFF, ON, TORN = 0, 1, 2
-PARTS = ('data 1', 'TFCI 1', 'midamble', 'TPC', 'TFCI 2', 'data 2', 'guard')
-LONG_MIDAMBLE, PAGE_BYTES, INDICATORS = 512, 276, 68
-SEATS, LIST_RECORDS, RECORD_BYTES, BOOK_BYTES, TEXT_BYTES = 16, 40, 8, 5232, 255
-LARGEST = 2 ** 32 - 1
+
+_LONG_MIDAMBLE, _PAGE_BYTES, _INDICATORS = 512, 276, 68
+_SEATS, _LIST_RECORDS, _RECORD_BYTES, _BOOK_BYTES, _TEXT_BYTES = 16, 40, 8, 5232, 255
+_LARGEST = 2 ** 32 - 1
+_INSTALLED = None  # install.sh writes the library's path here
+
+
+class Part(enum.IntEnum):
+    """The parts of a timeslot in time order, by the numbers that the library counts them with."""
+    DATA_1 = 1
+    TFCI_1 = 2
+    MIDAMBLE = 3
+    TPC = 4
+    TFCI_2 = 5
+    DATA_2 = 6
+    GUARD = 7
 
 
 class Refused(Exception):
     """A refused call: `number` is document 01's, `words` are its words."""
 
-    def __init__(self, number):
-        self.number, self.words = number, refusal_text(number)
-        super().__init__(f'{number}, {self.words}')
+    def __init__(self, number: int) -> None:
+        super().__init__(number)
+        self.number = number
+
+    @property
+    def words(self) -> str:
+        return refusal_text(self.number)
+
+    def __str__(self) -> str:
+        return f'{self.number}, {self.words}'
 
 
 class Span(NamedTuple):
-    """A part of a timeslot: its first chip and its length in chips."""
+    """A part of a timeslot: its first chip, 0 to 2559, and its length in chips."""
     start: int
     length: int
 
 
 class Parts(NamedTuple):
-    """The seven parts in time order (PARTS names them), and the bits of both data parts."""
-    spans: List[Span]
-    bits: tuple
+    """The seven parts in time order, and how many bits data 1 and data 2 carry. An empty part starts
+    where the part before it ends."""
+    spans: Dict[Part, Span]
+    bits: Tuple[int, int]
 
 
 class Place(NamedTuple):
-    """What lies at a chip: the part, 1 to 7, and the symbol's number in it (midamble and guard: the offset), from 0."""
-    part: int
+    """What lies at a chip: the part, and the symbol's number in it (in midamble and guard the chip's
+    offset), from 0."""
+    part: Part
     number: int
 
 
 class Indicator(NamedTuple):
-    """Where an indicator sits: its frame, its number q there, and `length` carrying bits from `first` and from `second`."""
+    """Where an indicator sits: its frame, its number q there, and `length` carrying bits from `first`
+    and from `second`; all count from 0."""
     frame: int
     q: int
     first: int
@@ -55,6 +90,7 @@ class Indicator(NamedTuple):
 
 
 class Booking(NamedTuple):
+    """A booking as it is listed: direction is UP or DOWN, the code is (factor, index)."""
     timeslot: int
     direction: int
     burst: int
@@ -65,6 +101,8 @@ class Booking(NamedTuple):
     tpc: int
 
 
+# ---- the library
+
 def _struct(name, *fields):
     return type(name, (ctypes.Structure,), {'_fields_': list(fields)})
 
@@ -73,10 +111,11 @@ def _numbers(name, *names):
     return _struct(name, *((n, ctypes.c_uint32) for n in names))
 
 
-_Book = _struct('_Book', ('inside', ctypes.c_ubyte * BOOK_BYTES))
+_Book = _struct('_Book', ('inside', ctypes.c_ubyte * _BOOK_BYTES))
 _BookAnswer = _struct('_BookAnswer', ('refusal', ctypes.c_uint32), ('book', _Book))
 _Answer = _numbers('_Answer', 'refusal', 'value')
-_PartsAnswer = _struct('_PartsAnswer', ('refusal', ctypes.c_uint32), ('start', ctypes.c_uint32 * 7), ('length', ctypes.c_uint32 * 7), ('bits', ctypes.c_uint32 * 2))
+_PartsAnswer = _struct('_PartsAnswer', ('refusal', ctypes.c_uint32), ('start', ctypes.c_uint32 * 7),
+                       ('length', ctypes.c_uint32 * 7), ('bits', ctypes.c_uint32 * 2))
 _Place = _numbers('_Place', 'refusal', 'part', 'number')
 _Beacons = _numbers('_Beacons', 'refusal', 'count', 'first', 'second')
 _Indicator = _numbers('_Indicator', 'refusal', 'frame', 'q', 'first', 'second', 'length')
@@ -84,6 +123,8 @@ _Owner = _numbers('_Owner', 'refusal', 'reserved', 'q')
 
 # What each function takes and gives: u a number, m lent memory (a pointer and its length), b a book.
 _CALLS = {
+    'mq_version': ('', ctypes.c_uint32),
+    'mq_book_bytes': ('', ctypes.c_uint32),
     'mq_refusal_text': ('um', _Answer),
     'mq_midamble_chip': ('uuuuu', _Answer),
     'mq_midamble': ('uuuum', _Answer),
@@ -104,144 +145,240 @@ _CALLS = {
 _TYPES = {'u': [ctypes.c_uint32], 'm': [ctypes.c_char_p, ctypes.c_size_t], 'b': [_Book]}
 
 
-def _found():
-    """The shared library's name, or a message that says what to do."""
-    here = pathlib.Path(__file__).resolve().parent
-    beside = [here / 'libmqarbset.so', here.parent / 'target' / 'staticlib' / 'libmqarbset.so', *(p / 'libmqarbset.so' for p in list(here.parents)[:3])]
-    named = os.environ.get('MQARBSET_LIBRARY') or next((str(p) for p in beside if p.exists()), None) or ctypes.util.find_library('mqarbset')
-    if not named:
-        raise ImportError('no libmqarbset.so: build it (examples/run), install it (install.sh) or name it in MQARBSET_LIBRARY')
-    return named
+def _path() -> str:
+    """The shared library's path, or a message that says what to do."""
+    named = os.environ.get('MQARBSET_LIBRARY')
+    if named:
+        return named
+    built = pathlib.Path(__file__).resolve().parent.parent / 'target' / 'staticlib' / 'libmqarbset.so'
+    path = _INSTALLED or str(built)
+    if not os.path.exists(path):
+        raise ImportError(f'no {path}: build it (examples/run), install it (install.sh) or name it in MQARBSET_LIBRARY')
+    return path
 
 
-_library = ctypes.CDLL(_found())
-for _name, (_takes, _gives) in _CALLS.items():
-    _function = getattr(_library, _name)
-    _function.argtypes = [t for letter in _takes for t in _TYPES[letter]]
-    _function.restype = _gives
+def _loaded():
+    """The library with the types of its calls, if it is of this module's version."""
+    path = _path()
+    library = ctypes.CDLL(path)
+    try:
+        for name, (takes, gives) in _CALLS.items():
+            function = getattr(library, name)
+            function.argtypes = [t for letter in takes for t in _TYPES[letter]]
+            function.restype = gives
+    except AttributeError as missing:
+        raise ImportError(f'{path} is another version than this module, {__version__}: {missing}') from None
+    number = library.mq_version()
+    version = f'{number // 10000}.{number // 100 % 100}.{number % 100}'
+    if version != __version__ or library.mq_book_bytes() != _BOOK_BYTES:
+        raise ImportError(f'{path} has the version {version}, and this module {__version__}: install both together')
+    return library
 
 
-def _number(n):
-    """A number as the library takes it. What does not fit 32 bits goes as the largest that does: every call refuses both alike."""
-    return n if 0 <= n <= LARGEST else LARGEST
+_library = _loaded()
 
 
-def _call(name, *arguments):
-    """The answer's fields, or Refused. A bytes object is memory to read, a ctypes buffer memory to write."""
-    passed = []
-    for a in arguments:
-        if isinstance(a, int):
-            passed.append(_number(a))
-        elif isinstance(a, _Book):
-            passed.append(a)
-        else:
-            passed += [ctypes.cast(a, ctypes.c_char_p), len(a)]
-    answer = getattr(_library, name)(*passed)
+class _Lent:
+    """Memory that is lent to a call: to read, or room to write in."""
+
+    def __init__(self, buffer, size):
+        self.kept = buffer  # alive as long as its address is in use
+        self.passed = [ctypes.cast(buffer, ctypes.c_char_p), size]
+
+
+def _number(name, value):
+    """A number as the library takes it. What does not fit 32 bits goes as the largest that does: every
+    call refuses both alike."""
+    try:
+        n = operator.index(value)
+    except TypeError:
+        raise TypeError(f'{name} must be a whole number, not {type(value).__name__}') from None
+    return n if 0 <= n <= _LARGEST else _LARGEST
+
+
+def _bytes(name, value):
+    """Bytes to read."""
+    try:
+        held = memoryview(value).tobytes()
+    except TypeError:
+        raise TypeError(f'{name} must be bytes, not {type(value).__name__}') from None
+    return _Lent(held, len(held))
+
+
+def _call(call, *book, **numbers):
+    """The answer's fields, or Refused. A book goes first; what is named is a number, or lent memory."""
+    passed = list(book)
+    for name, value in numbers.items():
+        passed += value.passed if isinstance(value, _Lent) else [_number(name, value)]
+    answer = getattr(_library, call)(*passed)
     if answer.refusal:
         raise Refused(answer.refusal)
     return answer
 
 
-def _written(name, room, *arguments, size=1):
-    """What a call writes into memory that is lent to it last: its answer says how much, in pieces of so many bytes."""
+def _written(call, room, *book, size=1, **numbers):
+    """What a call writes into memory that is lent to it last: its answer says how much, in pieces of
+    so many bytes."""
     out = ctypes.create_string_buffer(room)
-    answer = _call(name, *arguments, out)
+    answer = _call(call, *book, **numbers, out=_Lent(out, room))
     return out.raw[:answer.value * size]
 
 
-def refusal_text(number):
-    """Document 01's words for a refusal number; '' for a number that is no refusal's."""
-    return _written('mq_refusal_text', TEXT_BYTES, number).decode('ascii')
+# ---- the calls
+
+def refusal_text(number: int) -> str:
+    """Document 01's words for a refusal's number; '' for a number that is no refusal's."""
+    return _written('mq_refusal_text', _TEXT_BYTES, number=number).decode('ascii')
 
 
-def midamble_chip(cell, burst, count, user, chip):
-    """One chip (from 1) of a user's midamble: its power of j, 0 to 3. Refused with 1, 2, 3, 4, 10."""
-    return _call('mq_midamble_chip', cell, burst, count, user, chip).value
+def midamble_chip(cell: int, burst: int, count: int, user: int, chip: int) -> int:
+    """One chip of a user's midamble: its power of j, 0 to 3.
+
+    cell 0 to 127; burst type 1 to 3; count 8 or 16 (type 2: 3 or 6); user 1 to count; chip 1 to 512
+    (type 2: 256). Refused with 1, 2, 3, 4, 10.
+    """
+    return _call('mq_midamble_chip', cell=cell, burst=burst, count=count, user=user, chip=chip).value
 
 
-def midamble(cell, burst, count, user):
-    """All chips of a user's midamble, a byte each. Refused with 1, 2, 3, 4."""
-    return _written('mq_midamble', LONG_MIDAMBLE, cell, burst, count, user)
+def midamble(cell: int, burst: int, count: int, user: int) -> bytes:
+    """All chips of a user's midamble, a byte each: 512, or 256 for type 2.
+
+    cell 0 to 127; burst type 1 to 3; count 8 or 16 (type 2: 3 or 6); user 1 to count. Refused with
+    1, 2, 3, 4.
+    """
+    return _written('mq_midamble', _LONG_MIDAMBLE, cell=cell, burst=burst, count=count, user=user)
 
 
-def parts(burst, direction, factor, tfci, tpc):
-    """Where the seven parts of a timeslot lie. Refused with 2, 6, 7, 8."""
-    a = _call('mq_parts', burst, direction, factor, tfci, tpc)
-    return Parts([Span(*s) for s in zip(a.start, a.length)], tuple(a.bits))
+def parts(burst: int, direction: int, factor: int, tfci: int = 0, tpc: int = 0) -> Parts:
+    """Where the seven parts of a timeslot lie.
+
+    burst type 1 to 3; direction UP or DOWN; factor 1, 2, 4, 8, 16 (DOWN: 1, 16); tfci 0, 4, 8, 16, 32
+    bits; tpc 0 or 2 bits (DOWN: 0). Refused with 2, 6, 7, 8.
+    """
+    a = _call('mq_parts', burst=burst, direction=direction, factor=factor, tfci=tfci, tpc=tpc)
+    return Parts({part: Span(a.start[part - 1], a.length[part - 1]) for part in Part}, (a.bits[0], a.bits[1]))
 
 
-def at(burst, direction, factor, tfci, tpc, chip):
-    """What lies at a chip, 0 to 2559. Refused with 2, 6, 7, 8, 10."""
-    a = _call('mq_at', burst, direction, factor, tfci, tpc, chip)
-    return Place(a.part, a.number)
+def at(burst: int, direction: int, factor: int, tfci: int = 0, tpc: int = 0, *, chip: int) -> Place:
+    """What lies at a chip, 0 to 2559; the others as for parts. Refused with 2, 6, 7, 8, 10."""
+    a = _call('mq_at', burst=burst, direction=direction, factor=factor, tfci=tfci, tpc=tpc, chip=chip)
+    return Place(Part(a.part), a.number)
 
 
-def beacon(sync, k):
-    """The beacon timeslots of a synchronisation case and its k, one or two. Refused with 9."""
-    a = _call('mq_beacon', sync, k)
+def beacon(sync: int, k: int) -> List[int]:
+    """The beacon timeslots of a frame, one or two: sync is the synchronisation case, 1 or 2; k 0 to 14
+    (case 2: 0 to 6). Refused with 9."""
+    a = _call('mq_beacon', sync=sync, k=k)
     return [a.first, a.second][:a.count]
 
 
-def indicator(burst, length, frames, number):
-    """Where a paging indicator sits. Refused with 2, 10."""
-    a = _call('mq_indicator', burst, length, frames, number)
+def indicator(burst: int, length: int, frames: int, number: int) -> Indicator:
+    """Where a paging indicator sits.
+
+    burst type 1 or 2; length 2, 4 or 8 symbols; frames per block 1 to 4; number below frames times N,
+    where N is 60, 30, 15 (type 1) or 68, 34, 17 (type 2) for these lengths. Refused with 2, 10.
+    """
+    a = _call('mq_indicator', burst=burst, length=length, frames=frames, number=number)
     return Indicator(a.frame, a.q, a.first, a.second, a.length)
 
 
-def owner(burst, length, bit):
-    """The indicator q that owns a paging bit, or None where the bit is reserved. Refused with 2, 10."""
-    a = _call('mq_owner', burst, length, bit)
+def owner(burst: int, length: int, bit: int) -> Optional[int]:
+    """The indicator q that owns a paging bit, or None where the bit is reserved: bit 0 to 243 (type 2:
+    275), in time order; the others as for indicator. Refused with 2, 10."""
+    a = _call('mq_owner', burst=burst, length=length, bit=bit)
     return None if a.reserved else a.q
 
 
-def page(burst, length, settings):
-    """One frame's settings (bytes: 0 off, any other on) as bits in time order. Refused with 2, 10, 11."""
-    return _written('mq_page', PAGE_BYTES, burst, length, bytes(settings))
+def page(burst: int, length: int, settings: bytes) -> bytes:
+    """One frame's bits in time order, 244 (type 2: 276) bytes of 0 or 1, from at least N settings: 0 is
+    off, any other is on. burst and length as for indicator. Refused with 2, 10, 11."""
+    return _written('mq_page', _PAGE_BYTES, burst=burst, length=length, settings=_bytes('settings', settings))
 
 
-def read_page(burst, length, bits):
-    """The indicators of one frame's bits, a byte each: OFF, ON or TORN. Refused with 2, 10, 11."""
-    return _written('mq_read_page', INDICATORS, burst, length, bytes(bits))
+def read_page(burst: int, length: int, bits: bytes) -> bytes:
+    """The N indicators of one frame, a byte each: OFF, ON or TORN, from at least 244 (type 2: 276) bits
+    in time order: 0 is 0, any other is 1. burst and length as for indicator. Refused with 2, 10, 11."""
+    return _written('mq_read_page', _INDICATORS, burst=burst, length=length, bits=_bytes('bits', bits))
 
 
 class Book:
     """A class book: sixteen seats, 0 to 15, all closed at first. A refused call leaves it as it was.
 
-    A book is copied with copy.copy or copy.deepcopy. Its form does not leave the program: what is kept of it is the lines of a lesson
-    (docs/LESSONS.md), which give the book again; examples/lesson.py shows how.
+    Threads may share a book: its calls come one after the other. A book is copied with copy.copy or
+    copy.deepcopy, and two are equal if all their seats are. Its form does not leave the program: what
+    is kept of it is the lines of a lesson (docs/LESSONS.md), which give the book again;
+    examples/lesson.py shows how.
     """
 
-    def __init__(self):
+    __hash__ = None  # a book changes
+
+    def __init__(self) -> None:
+        self._lock = threading.Lock()
         self._book = _library.mq_empty_book()
 
-    def __copy__(self):
+    def _held(self):
+        with self._lock:
+            return self._book  # never changed in place: a call gives another
+
+    def _changed(self, call, **numbers):
+        with self._lock:
+            self._book = _call(call, self._book, **numbers).book
+
+    def __copy__(self) -> 'Book':
         made = type(self)()
-        made._book = _Book.from_buffer_copy(self._book)
+        made._book = self._held()
         return made
 
-    def __deepcopy__(self, memo):
+    def __deepcopy__(self, memo) -> 'Book':
         return self.__copy__()
 
     def __reduce_ex__(self, protocol):
         raise TypeError("a book's form does not leave the program: keep the lines of a lesson that give it again")
 
-    def open(self, seat, cell, sync, k, long=0, short=0):
-        """Opens a seat; a count of 0 stands for 16 (long) or 6 (short). Refused with 1, 3, 9, 12, 13, 15."""
-        self._book = _call('mq_open_value', self._book, seat, cell, sync, k, long, short).book
+    def __eq__(self, other: object) -> bool:
+        if not isinstance(other, Book):
+            return NotImplemented
+        return bytes(self._held()) == bytes(other._held())
 
-    def book(self, seat, timeslot, direction, burst, factor, index, user, tfci=0, tpc=0):
-        """Books a code in a timeslot for a seat. Refused with 2, 4 to 8, 12 to 14, 16 to 20."""
-        self._book = _call('mq_book_value', self._book, seat, timeslot, direction, burst, factor, index, user, tfci, tpc).book
+    def __repr__(self) -> str:
+        book, seats = self.__copy__(), []
+        for seat in range(_SEATS):
+            try:
+                seats.append(f'seat {seat} {len(book.list(seat))}')
+            except Refused:
+                continue
+        return f'<Book: {", ".join(seats) or "no seat open"}>'
 
-    def cancel(self, seat, timeslot, factor, index):
-        """Cancels the booking named by timeslot and code. Refused with 5, 6, 12, 13, 14, 21."""
-        self._book = _call('mq_cancel_value', self._book, seat, timeslot, factor, index).book
+    def open(self, seat: int, cell: int, sync: int, k: int, long: int = 0, short: int = 0) -> None:
+        """Opens a seat.
 
-    def close(self, seat):
-        """Closes a seat: its bookings and its settings go. Refused with 12, 13, 14."""
-        self._book = _call('mq_close_value', self._book, seat).book
+        seat 0 to 15, not open; cell 0 to 127; sync and k as for beacon; long 8 or 16, or 0 for 16; short
+        3 or 6, or 0 for 6. Refused with 1, 3, 9, 12, 13, 15.
+        """
+        self._changed('mq_open_value', seat=seat, cell=cell, sync=sync, k=k, long=long, short=short)
 
-    def list(self, seat):
-        """A seat's bookings, by timeslot, then by the first leaf of their codes. Refused with 12, 13, 14."""
-        records = _written('mq_list_bytes', LIST_RECORDS * RECORD_BYTES, self._book, seat, size=RECORD_BYTES)
-        return [Booking(*records[i:i + RECORD_BYTES]) for i in range(0, len(records), RECORD_BYTES)]
+    def book(self, seat: int, timeslot: int, direction: int, burst: int, factor: int, index: int, user: int,
+             tfci: int = 0, tpc: int = 0) -> None:
+        """Books a code in a timeslot for a seat.
+
+        seat 0 to 15, open; timeslot 0 to 14; direction UP or DOWN; burst type 1 to 3 (DOWN: 1, 2); factor
+        1, 2, 4, 8, 16 (DOWN: 1, 16); index 1 to factor; user 1 to the seat's count; tfci and tpc as for
+        parts. Refused with 2, 4 to 8, 12 to 14, 16 to 20.
+        """
+        self._changed('mq_book_value', seat=seat, timeslot=timeslot, direction=direction, burst=burst,
+                      factor=factor, index=index, user=user, tfci=tfci, tpc=tpc)
+
+    def cancel(self, seat: int, timeslot: int, factor: int, index: int) -> None:
+        """Cancels the booking that is named by timeslot and code; the numbers as for book. Refused with
+        5, 6, 12, 13, 14, 21."""
+        self._changed('mq_cancel_value', seat=seat, timeslot=timeslot, factor=factor, index=index)
+
+    def close(self, seat: int) -> None:
+        """Closes a seat, 0 to 15: its bookings and its settings go. Refused with 12, 13, 14."""
+        self._changed('mq_close_value', seat=seat)
+
+    def list(self, seat: int) -> List[Booking]:
+        """A seat's bookings, by timeslot, then by the first leaf of their codes; seat 0 to 15, open.
+        Refused with 12, 13, 14."""
+        records = _written('mq_list_bytes', _LIST_RECORDS * _RECORD_BYTES, self._held(), size=_RECORD_BYTES, seat=seat)
+        return [Booking(*records[i:i + _RECORD_BYTES]) for i in range(0, len(records), _RECORD_BYTES)]

@@ -38,12 +38,30 @@ pub const NO_BOOKING: Record = Record {
 pub fn run(input: &mut impl BufRead, out: &mut dyn Write, rows: &Rows) -> io::Result<()> {
     let mut bench = Bench::new(rows);
     let mut line_number = 0;
-    while let Some(line) = next_line(input)? {
+    let begun = behind_mark(input)?;
+    let mut input = begun.as_slice().chain(input);
+    while let Some(line) = next_line(&mut input)? {
         line_number += 1;
         out.write_all(bench.reply(line_number, &line).as_bytes())?;
         out.flush()?;
     }
     Ok(())
+}
+
+/// A UTF-8 byte order mark at the start of the input is passed over. Gives the bytes that were read to see that there is
+/// none, and reads no byte more than that takes.
+fn behind_mark(input: &mut impl BufRead) -> io::Result<Vec<u8>> {
+    let mut begun = Vec::new();
+    for expected in [0xEF, 0xBB, 0xBF] {
+        let Some(byte) = input.by_ref().bytes().next().transpose()? else {
+            return Ok(begun);
+        };
+        begun.push(byte);
+        if byte != expected {
+            return Ok(begun);
+        }
+    }
+    Ok(Vec::new())
 }
 
 /// The next line without its LF, or nothing at the end of the input. Of a line that is too long only so much is kept

@@ -97,7 +97,7 @@ fn tabled(
 {
     let found = words::look_up(name, table, 15);
     if found.number == 15 {
-        let n = say::no_call(out, at, number, b": unknown word; 'help' lists the calls\n");
+        let n = say::unknown(out, at, number, name);
         return Turn { at: n, book: b };
     }
     let from = found.from;

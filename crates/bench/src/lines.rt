@@ -9,16 +9,17 @@ use classbook::Book;
 use lesson_words::words;
 
 // What goes on from line to line: the book; how many lines there were; how many bytes of the next one are gathered, 1024 standing for any that are too many;
-// and the place of the next byte of output.
+// the place of the next byte of output; and whether each line is written before its reply.
 pub struct Session {
     pub book: Book,
     pub number: u64,
     pub length: usize,
     pub at: usize,
+    pub echo: bool,
 }
 
 // The book is empty, and nothing was read.
-pub fn start() -> Session
+pub fn start(echo: bool) -> Session
     ensures { λ r. ⌜ r .book ≡ emptyBook ⌝ }
 {
     let book = classbook::empty_book();
@@ -27,21 +28,31 @@ pub fn start() -> Session
         number: 0,
         length: 0,
         at: 0,
+        echo,
     }
 }
 
-// Writes out the replies so far.
-pub fn written(out: &[u8; 4096], s: Session) -> Session
+// A session with the next byte of output at this place.
+fn going_on(s: Session, at: usize) -> Session
     ensures { λ r. ⌜ r .book ≡ s .book ⌝ }
 {
-    let at = printing::flush(out, s.at);
     let book = s.book;
     Session {
         book,
         number: s.number,
         length: s.length,
         at,
+        echo: s.echo,
     }
+}
+
+// Writes out the replies so far, and a prompt where somebody types.
+pub fn waiting(out: &mut [u8; 4096], s: Session, typed: bool) -> Session
+    ensures { λ r. ⌜ r .book ≡ s .book ⌝ }
+{
+    let n = say::prompt(out, s.at, typed);
+    let at = printing::flush(out, n);
+    going_on(s, at)
 }
 
 // Puts bytes behind those of the line that are there, as far as there is room.
@@ -56,6 +67,23 @@ fn gathered(line: &mut [u8; 1024], held: usize, bytes: &[u8]) -> usize {
         i += 1;
     }
     n
+}
+
+// The line before its reply, as far as it was gathered, if that is asked for.
+fn echoed(
+    line: &[u8],
+    held: usize,
+    out: &mut [u8; 4096],
+    at: usize,
+    number: u64,
+    echo: bool,
+) -> usize {
+    if echo {
+        if held <= line.len() {
+            return say::echoed(out, at, number, &line[..held]);
+        }
+    }
+    at
 }
 
 // The line's bytes, answered.
@@ -75,13 +103,15 @@ fn answered(line: &[u8; 1024], held: usize, out: &mut [u8; 4096], s: Session) ->
 {
     let b = s.book;
     let number = std::num::wrapping_add_u64(s.number, 1);
-    let t = reply(line, held, out, s.at, number, b);
+    let at = echoed(line, held, out, s.at, number, s.echo);
+    let t = reply(line, held, out, at, number, b);
     let book = t.book;
     Session {
         book,
         number,
         length: 0,
         at: t.at,
+        echo: s.echo,
     }
 }
 
@@ -95,6 +125,7 @@ fn holding(s: Session, held: usize) -> Session
         number: s.number,
         length: held,
         at: s.at,
+        echo: s.echo,
     }
 }
 
@@ -112,4 +143,13 @@ pub fn block(bytes: &[u8], line: &mut [u8; 1024], out: &mut [u8; 4096], s: Sessi
         from = end + 1;
     }
     t
+}
+
+// Nothing more comes. At the end of the input a line may stand that has no LF; what is left of one anywhere else is none.
+pub fn last(line: &[u8; 1024], out: &mut [u8; 4096], s: Session, ended: bool) -> Session {
+    let held = s.length;
+    if ended & (held > 0) {
+        return answered(line, held, out, s);
+    }
+    s
 }

@@ -25,6 +25,22 @@ pub fn done(out: &mut [u8; 4096], at: usize, refusal: u32) -> usize {
     refused(out, at, refusal)
 }
 
+// What somebody who types sees before each line.
+pub fn prompt(out: &mut [u8; 4096], at: usize, typed: bool) -> usize {
+    if typed {
+        return printing::word(out, at, b"> ");
+    }
+    at
+}
+
+// A line of a lesson with its number, as it stands before its reply.
+pub fn echoed(out: &mut [u8; 4096], at: usize, number: u64, line: &[u8]) -> usize {
+    let n = printing::number(out, at, number);
+    let n = printing::word(out, n, b"> ");
+    let n = printing::word(out, n, line);
+    printing::put(out, n, b'\n')
+}
+
 // A form with one number.
 pub fn named(out: &mut [u8; 4096], at: usize, text: &[u8], value: u32) -> usize {
     let numbers = [value];
@@ -38,11 +54,35 @@ pub fn digits(out: &mut [u8; 4096], at: usize, word: &[u8], values: &[u8], count
     printing::put(out, n, b'\n')
 }
 
-// What is said of a line that is no call: `line N` and a text.
+// What is said of a line that is no call: `line N` and a text. `./bench` hears of it.
 pub fn no_call(out: &mut [u8; 4096], at: usize, number: u64, text: &[u8]) -> usize {
+    printing::complain();
     let n = printing::word(out, at, b"line ");
     let n = printing::number(out, n, number);
     printing::word(out, n, text)
+}
+
+// Whether the first two bytes are a byte order mark of UTF-16.
+fn sixteen(word: &[u8]) -> bool {
+    if word.len() < 2 {
+        return false;
+    }
+    let first = word[0];
+    let second = word[1];
+    ((first == 255) & (second == 254)) | ((first == 254) & (second == 255))
+}
+
+// A line whose first word is no call's.
+pub fn unknown(out: &mut [u8; 4096], at: usize, number: u64, word: &[u8]) -> usize {
+    if (number == 1) & sixteen(word) {
+        return no_call(
+            out,
+            at,
+            number,
+            b": this is UTF-16; save the lesson as UTF-8\n",
+        );
+    }
+    no_call(out, at, number, b": unknown word; 'help' lists the calls\n")
 }
 
 // A line whose words are not those of its call, by the call's number: what was expected.

@@ -21,6 +21,8 @@ use Rattle.mqarbset.proofs.slots.mq_at.Reads as at
 use Rattle.mqarbset.proofs.slots.mq_beacon.Reads as beacon
 use Rattle.mqarbset.proofs.pages.mq_indicator.Reads as indicator
 use Rattle.mqarbset.proofs.pages.mq_owner.Reads as owner
+use Rattle.mqarbset.proofs.version.mq_version.Reads as version
+use Rattle.mqarbset.proofs.version.mq_book_bytes.Reads as book-bytes
 
 -- a promise that is one equation leaves one reply, and one memory
 once : (o : MqAnswer × List ℕ) (r r' : MqAnswer) (m m' : List ℕ) → _≡_ {A = MqAnswer × List ℕ} (r, m) o → _≡_ {A = MqAnswer × List ℕ} (r', m') o → (r ≡ r') × (m ≡ m')
@@ -29,6 +31,18 @@ once o r r' m m' p q =
     (ap (λ (x : MqAnswer × List ℕ). x .0) e, ap (λ (x : MqAnswer × List ℕ). x .1) e)
 
 -- ---- calls that lend no memory
+
+pub mq-version-total : (κs : _) (a : _) → version.Pre κs a
+mq-version-total κs a = tt
+
+pub mq-version-unique : (κs : _) (a : _) (r r' : _) (s s' : _) → version.Post κs a r s → version.Post κs a r' s' → r ≡ r'
+mq-version-unique κs a r r' s s' p q = p ∙ sym q
+
+pub mq-book-bytes-total : (κs : _) (a : _) → book-bytes.Pre κs a
+mq-book-bytes-total κs a = tt
+
+pub mq-book-bytes-unique : (κs : _) (a : _) (r r' : _) (s s' : _) → book-bytes.Post κs a r s → book-bytes.Post κs a r' s' → r ≡ r'
+mq-book-bytes-unique κs a r r' s s' p q = p ∙ sym q
 
 pub mq-midamble-chip-total : (κs : _) (a : _) → chip.Pre κs a
 mq-midamble-chip-total κs a = tt

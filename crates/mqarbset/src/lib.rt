@@ -3,6 +3,7 @@
 pub mod book;
 pub mod pages;
 pub mod slots;
+pub mod version;
 
 ghost use mathlib.Core.Path.{_≡_};
 ghost use Rattle.midambles.specs.Calls.{chipAnswer, midambleOutcome};

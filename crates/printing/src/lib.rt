@@ -1,20 +1,35 @@
 // Lines for standard output. Bytes go into a lent buffer (`io::buffer()`), which is written out whenever it is full.
-// Each call takes the place of the next byte, 0 at first, and gives back the place after what it put; `flush` writes the rest. No call asks anything.
-ghost use mathlib.Core.Path.{_≡_};
+// Each call takes the place of the next byte, 0 at first, and gives back the place after what it put; `flush` writes the rest. Where standard output takes no more,
+// that is said once on standard error, and the place is CLOSED from then on: nothing is put, and nothing is written. No call asks anything.
 
-// Writes out the first `at` bytes of `out`, or nothing where there are fewer.
-fn write_first(out: &[u8], at: usize) {
-    if at <= out.len() {
-        io::write_all(libc::STDOUT_FILENO, &out[..at]);
-    }
+// The place of the next byte where none can be written.
+pub const CLOSED: usize = 4097;
+
+// A byte for `./bench`, which listens at descriptor 200: something was no call, or failed. Where nobody listens, nothing comes of it.
+pub fn complain() {
+    libc::write(200, b"x");
 }
 
-// Writes out the bytes before `at`; the next byte then goes to place 0.
-pub fn flush(out: &[u8; 4096], at: usize) -> usize
-    ensures { λ r. ⌜ r ≡ 0 ⌝ }
-{
-    write_first(out, at);
-    0
+// What failed goes to standard error, with the reason, and `./bench` hears of it.
+pub fn fail(what: &[u8]) {
+    os::fail(what);
+    complain();
+}
+
+// Writes out the first `at` bytes of `out`; false where there are fewer, or where they can't be written.
+fn write_first(out: &[u8], at: usize) -> bool {
+    if at <= out.len() {
+        if io::write_all(libc::STDOUT_FILENO, &out[..at]) {
+            return true;
+        }
+        fail(b"bench: standard output");
+    }
+    false
+}
+
+// Writes out the bytes before `at`; the next byte then goes to place 0, or nowhere.
+pub fn flush(out: &[u8; 4096], at: usize) -> usize {
+    if write_first(out, at) { 0 } else { CLOSED }
 }
 
 // One byte.
@@ -23,9 +38,12 @@ pub fn put(out: &mut [u8; 4096], at: usize, b: u8) -> usize {
         out[at] = b;
         return at + 1;
     }
-    flush(out, at);
-    out[0] = b;
-    1
+    let n = flush(out, at);
+    if n == 0 {
+        out[0] = b;
+        return 1;
+    }
+    n
 }
 
 // The bytes of a text.

@@ -7,19 +7,22 @@ use Rattle.bench.proofs.all.Statement.{statement}
 use Rattle.bench.proofs.all.Tie as tie
 
 abbrev Inv-loop : tie.InvT-loop
-Inv-loop block₀ line₀ out₀ t₀ reads₀ block line out t reads = length block ≡ length block₀
+Inv-loop block₀ line₀ out₀ typed t₀ reads₀ block line out t reads = length block ≡ length block₀
 
 abbrev μ-loop : tie.MeasureT-loop
-μ-loop block₀ line₀ out₀ t₀ reads₀ block line out t reads = reads
+μ-loop block₀ line₀ out₀ typed t₀ reads₀ block line out t reads = reads
 
 loop-holds : tie.Need-loop-holds Inv-loop μ-loop
 loop-holds c = search needs
 
-written-requires : tie.Need-written-requires Inv-loop μ-loop
-written-requires c κs = search needs
+waiting-requires : tie.Need-waiting-requires Inv-loop μ-loop
+waiting-requires c κs = search needs
 
-read-requires : tie.Need-read-requires Inv-loop μ-loop
-read-requires c κs = search needs
+next-requires : tie.Need-next-requires Inv-loop μ-loop
+next-requires c κs = search needs
+
+last-requires : tie.Need-last-requires Inv-loop μ-loop
+last-requires c κs = search needs
 
 same-length : tie.Need-same-length Inv-loop μ-loop
 same-length c = search needs
@@ -61,8 +64,9 @@ all-spec =
     Inv-loop
     μ-loop
     loop-holds
-    written-requires
-    read-requires
+    waiting-requires
+    next-requires
+    last-requires
     same-length
     returns
     count-requires

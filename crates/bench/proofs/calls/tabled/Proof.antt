@@ -9,14 +9,11 @@ use Rattle.bench.proofs.calls.tabled.Tie as tie
 look-up-requires : tie.Need-look-up-requires
 look-up-requires c κs = search needs
 
-slice-aggregate-no-call : tie.Need-slice-aggregate-no-call
-slice-aggregate-no-call c = search needs
-
-no-call-requires : tie.Need-no-call-requires
-no-call-requires c κs = search needs
+unknown-requires : tie.Need-unknown-requires
+unknown-requires c κs = search needs
 
 returns : tie.Need-returns
-returns c = tabled-none _ _ _ _ _ _ (c .before .before .before .before .before .look-up .ensures .0) (c .before .before .before .if1 .taken) refl
+returns c = tabled-none _ _ _ _ _ _ (c .before .before .before .before .look-up .ensures .0) (c .before .before .if1 .taken) refl
 
 sub-worded : tie.Need-sub-worded
 sub-worded c = search needs
@@ -38,8 +35,7 @@ tabled-spec =
     tie.close
     (tie.spec
     look-up-requires
-    slice-aggregate-no-call
-    no-call-requires
+    unknown-requires
     returns
     sub-worded
     part-worded-start

@@ -1,0 +1,161 @@
+"""The Python module beside what it says: threads, copies, pickles, wrong arguments, where the library is found, its version.
+
+    MQARBSET_LIBRARY=.. PYTHONPATH=python python3 checks/python.py TEMPORARY-FOLDER
+
+checks/run calls it. Says what does not hold and ends with 1, or says how much was tried.
+"""
+import concurrent.futures
+import copy
+import inspect
+import multiprocessing
+import os
+import pathlib
+import pickle
+import shutil
+import subprocess
+import sys
+import threading
+
+import mqarbset
+from mqarbset import DOWN, UP, Book, Part, Refused
+
+ROOT = pathlib.Path(__file__).resolve().parent.parent
+FOLDER = pathlib.Path(sys.argv[1])
+tried = 0
+
+
+def holds(what, truth):
+    global tried
+    tried += 1
+    if not truth:
+        sys.exit(f'python: not so: {what}')
+
+
+def raised(kind, call, *arguments, **named):
+    """What a call raises; it must be of that kind."""
+    try:
+        call(*arguments, **named)
+    except kind as error:
+        return error
+    except Exception as error:
+        sys.exit(f'python: {call.__name__}{arguments} raises {error!r}, and not {kind.__name__}')
+    sys.exit(f'python: {call.__name__}{arguments} raises nothing, and not {kind.__name__}')
+
+
+def threads():
+    """Sixteen threads on one book: what was accepted is there afterwards, and nothing else."""
+    book, accepted = Book(), [0] * 16
+    for seat in range(16):
+        book.open(seat, seat, 1, 0)
+
+    def lesson(seat):
+        for turn in range(40):
+            for index in range(1, 16):
+                try:
+                    book.book(seat, 1 + (turn + index) % 13, UP, 1, 16, index + 1, 1 + index % 16)
+                    accepted[seat] += 1
+                except Refused as refused:
+                    holds(f'refusal {refused.number} in a shared book', refused.number in (17, 19, 20))
+            for booking in book.list(seat)[turn % 7::3]:
+                book.cancel(seat, booking.timeslot, booking.factor, booking.index)
+                accepted[seat] -= 1
+
+    running = [threading.Thread(target=lesson, args=(seat,)) for seat in range(16)]
+    interval = sys.getswitchinterval()
+    sys.setswitchinterval(1e-6)
+    for one in running:
+        one.start()
+    for one in running:
+        one.join()
+    sys.setswitchinterval(interval)
+    for seat in range(16):
+        holds(f'seat {seat} holds {accepted[seat]}', len(book.list(seat)) == accepted[seat])
+
+
+def refused_elsewhere(number):
+    raise Refused(number)
+
+
+def pickles():
+    error = raised(Refused, mqarbset.beacon, 3, 0)
+    for again in (pickle.loads(pickle.dumps(error)), copy.copy(error), copy.deepcopy(error)):
+        holds('a refusal is the same when it is copied', (again.number, again.words, str(again)) == (9, error.words, str(error)))
+    with concurrent.futures.ProcessPoolExecutor(1, mp_context=multiprocessing.get_context('spawn')) as pool:
+        holds('a refusal comes back from a pool of processes', raised(Refused, pool.submit(refused_elsewhere, 20).result).number == 20)
+        holds('and the pool goes on', raised(Refused, pool.submit(refused_elsewhere, 7).result).number == 7)
+
+
+def arguments():
+    page, book = mqarbset.page, Book()
+    for wrong in (30, 10 ** 13, 'a text', None, [0, 1], 1.5):
+        holds(f'page refuses settings of {wrong!r} by name', 'settings' in str(raised(TypeError, page, 1, 4, wrong)))
+        holds(f'read_page refuses bits of {wrong!r} by name', 'bits' in str(raised(TypeError, mqarbset.read_page, 1, 4, wrong)))
+    numbers = {
+        mqarbset.refusal_text: 1, mqarbset.midamble_chip: 5, mqarbset.midamble: 4, mqarbset.parts: 5, mqarbset.beacon: 2, mqarbset.indicator: 4,
+        mqarbset.owner: 3, book.open: 6, book.book: 9, book.cancel: 4, book.close: 1, book.list: 1,
+    }
+    for call, count in numbers.items():
+        names = list(inspect.signature(call).parameters)[:count]
+        for i, name in enumerate(names):
+            for wrong in (1.0, '1', None, b'1'):
+                passed = [1] * count
+                passed[i] = wrong
+                holds(f'{call.__name__} names {name}', str(raised(TypeError, call, *passed)).startswith(f'{name} must be a whole number'))
+    for huge in (2 ** 32, 2 ** 64, 10 ** 30, -1, -2 ** 40):
+        holds(f'cell {huge} is refused with 1', raised(Refused, mqarbset.midamble, huge, 1, 8, 1).number == 1)
+        holds(f'seat {huge} is refused with 13', raised(Refused, book.close, huge).number == 13)
+        holds(f'number {huge} is refused with 10', raised(Refused, mqarbset.indicator, 1, 4, 1, huge).number == 10)
+    holds('a bytearray and a memoryview are bytes', page(1, 4, bytearray(30)) == page(1, 4, memoryview(bytes(30))) == page(1, 4, bytes(30)))
+
+
+def books():
+    book, other = Book(), Book()
+    holds('two empty books are equal', book == other and not book != other)
+    holds('a book is no number', book != 5)
+    holds('an empty book says so', repr(book) == '<Book: no seat open>')
+    book.open(3, 0, 1, 0)
+    book.open(11, 0, 2, 3)
+    book.book(3, 2, DOWN, 1, 16, 3, 4)
+    holds('a book says which seats are open', repr(book) == '<Book: seat 3 1, seat 11 0>')
+    holds('books with other seats differ', book != other)
+    holds('a copy is equal', copy.copy(book) == book == copy.deepcopy(book))
+    raised(TypeError, hash, book)
+    raised(TypeError, pickle.dumps, book)
+    holds('TFCI and TPC are 0 where they are left out', mqarbset.parts(1, UP, 8) == mqarbset.parts(1, UP, 8, 0, 0))
+    holds('also at a chip', mqarbset.at(1, UP, 8, chip=5) == mqarbset.at(1, UP, 8, 0, 0, chip=5) == (Part.DATA_1, 0))
+    holds('parts come in time order', list(mqarbset.parts(1, UP, 8).spans) == list(Part))
+    for name in mqarbset.__all__:
+        holds(f'{name} is there', hasattr(mqarbset, name))
+
+
+def run(module, **environment):
+    """What `import mqarbset` does of a copy of the module in another folder, in a process of its own."""
+    keep = {name: value for name, value in os.environ.items() if name not in ('MQARBSET_LIBRARY', 'PYTHONPATH')}
+    return subprocess.run([sys.executable, '-B', '-c', 'import mqarbset; print(mqarbset._library._name)'], cwd=FOLDER,
+                          env={**keep, 'PYTHONPATH': str(module.parent), **environment}, capture_output=True, text=True)
+
+
+def found():
+    """Where the library is looked for, and where not."""
+    library = pathlib.Path(os.environ['MQARBSET_LIBRARY']).resolve()
+    module = FOLDER / 'a' / 'b' / 'c' / 'mqarbset.py'
+    module.parent.mkdir(parents=True)
+    shutil.copy(ROOT / 'python' / 'mqarbset.py', module)
+    for planted in (module.parent, *list(module.parents)[1:4]):
+        shutil.copy(library, planted / 'libmqarbset.so')
+    alone = run(module)
+    holds('a library that only lies about is not loaded', alone.returncode == 1 and 'MQARBSET_LIBRARY' in alone.stderr)
+    holds('the one that is named is', run(module, MQARBSET_LIBRARY=str(library)).stdout.strip() == str(library))
+    built = FOLDER / 'a' / 'b' / 'target' / 'staticlib' / 'libmqarbset.so'
+    built.parent.mkdir(parents=True)
+    shutil.copy(library, built)
+    holds('or the one that was built in the checkout', run(module).stdout.strip() == str(built))
+    module.write_text(module.read_text().replace("__version__ = '", "__version__ = '9"))
+    other = run(module)
+    holds('a library of another version is refused', other.returncode == 1 and 'install both together' in other.stderr)
+
+
+if __name__ == '__main__':
+    for part in (arguments, books, pickles, threads, found):
+        part()
+    print(f'python: {tried} things tried of the module, all as it says')

@@ -1,8 +1,8 @@
 // The list of a seat.
-use crate::say;
 use bookings::Booking;
 use classbook::Book;
 use conditions::Direction;
+use lesson_replies::say;
 use lesson_words::numbers::Values;
 
 // The line of the form below.

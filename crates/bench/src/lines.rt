@@ -4,8 +4,8 @@ ghost use Rattle.classbook.specs.Book.{emptyBook};
 ghost use Rattle.bench.specs.Lines.{gatheredLine};
 use crate::calls;
 use crate::calls::Turn;
-use crate::say;
 use classbook::Book;
+use lesson_replies::say;
 use lesson_words::words;
 
 // What goes on from line to line: the book; how many lines there were; how many bytes of the next one are gathered, 1024 standing for any that are too many;

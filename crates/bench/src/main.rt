@@ -1,16 +1,9 @@
 // The program `bench`: one call a line on standard input, one reply each on standard output (docs/LESSONS.md). The calls are those of the proved crates.
 // Here lines are gathered and handed on by their first word, and what comes back is printed; the words are read by `lesson_words`. Replies are written out before each wait for input.
 // A program has no exit status of its own: what is no call, and what can't be read or written, `printing` tells `./bench`.
-mod beacon_calls;
 mod book_calls;
 mod calls;
-mod help;
 mod lines;
-mod midamble_calls;
-mod paging_calls;
-mod replies;
-mod say;
-mod timeslot_calls;
 
 use lesson_words::words;
 use lines::Session;

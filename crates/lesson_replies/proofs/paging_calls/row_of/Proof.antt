@@ -3,8 +3,8 @@
 use Prim.Native.Nat.{_≤_, _-_}
 use lib.ListN.{length}
 use borrow.Author.Needs.{needs}
-use Rattle.bench.proofs.paging_calls.row_of.Statement.{statement}
-use Rattle.bench.proofs.paging_calls.row_of.Tie as tie
+use Rattle.lesson_replies.proofs.paging_calls.row_of.Statement.{statement}
+use Rattle.lesson_replies.proofs.paging_calls.row_of.Tie as tie
 
 abbrev Inv-loop : tie.InvT-loop
 Inv-loop word out₀ i₀ out i = (i ≤ length word) × (i ≤ 1024)

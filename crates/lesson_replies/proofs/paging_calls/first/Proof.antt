@@ -4,8 +4,8 @@ use mathlib.Core.Path.{sym}
 use native.Mathlib.Nat.{le-of-lt}
 use lib.Seq.{length-take-le}
 use borrow.Author.Needs.{needs}
-use Rattle.bench.proofs.paging_calls.first.Statement.{statement}
-use Rattle.bench.proofs.paging_calls.first.Tie as tie
+use Rattle.lesson_replies.proofs.paging_calls.first.Statement.{statement}
+use Rattle.lesson_replies.proofs.paging_calls.first.Tie as tie
 
 slice-aggregate-result : tie.Need-slice-aggregate-result
 slice-aggregate-result c = sym (length-take-le _ _ (le-of-lt (c .before .if1 .taken)))

@@ -65,16 +65,11 @@ run-ends L N H q p f h e = omega (arith, run-within L N q h, f .whole)
 pub next-run : (L q p : ℕ) → p ≡ L * q → p + L ≡ L * (q + 1)
 next-run L q p e = omega (arith, ap (λ (n : ℕ). L * n) (add-one q), mul-suc L q)
 
-pub counted : (L N H q p x y r : ℕ) (bits : List ℕ) → Fits L N H → q < N → p ≡ L * q → x ≡ onesFrom bits p L → y ≡ onesFrom bits (H + 4 + p) L → r ≡ heard (x + y) (2 * L)
+pub counted : (L N H q p x r : ℕ) (bits : List ℕ) → Fits L N H → q < N → p ≡ L * q → x ≡ onesFrom bits p L + onesFrom bits (H + 4 + p) L → r ≡ heard x (2 * L)
     → r ≡ readingOf L H bits q
-counted L N H q p x y r bits f h e first second v =
-    v ∙ ap (λ (k : ℕ). heard (k + y) (2 * L)) (first ∙ ap (λ (a : ℕ). onesFrom bits a L) e)
-    ∙ ap (λ (k : ℕ). heard (onesFrom bits (L * q) L + k) (2 * L)) (second ∙ ap (λ (a : ℕ). onesFrom bits (H + 4 + a) L) e)
+counted L N H q p x r bits f h e both v =
+    v ∙ ap (λ (k : ℕ). heard k (2 * L)) (both ∙ ap (λ (a : ℕ). onesFrom bits a L + onesFrom bits (H + 4 + a) L) e)
     ∙ sym (reading-runs L H bits q (omega (arith, run-ends L N H q p f h e, f .low)))
-
--- as many ones at most as there are bits
-pub sum-most : (bits : List ℕ) (L x y a b : ℕ) → x ≡ onesFrom bits a L → y ≡ onesFrom bits b L → x + y ≤ L + L
-sum-most bits L x y a b e g = omega (arith, ones-most bits a L, ones-most bits b L)
 
 -- a turn of a loop that writes g n at place n
 pub row-turn : (g : ℕ → ℕ) (n v : ℕ) (d out : List ℕ) → n < length d → out ≡ run (λ (i : ℕ). g (i - 1)) n ++ drop n d → v ≡ g n

@@ -68,15 +68,16 @@ pub fn fill(length: usize, per: usize, half: usize, settings: &[u8], out: &mut [
     repeat(out, half, half + 4);
 }
 
-// How many of the bits from place `from` are 1, of as many as `count` says.
-fn ones(bits: &[u8], from: usize, count: usize) -> u32
-    requires { ⌜ (count ≤ 255) × Holds (now bits) (from + count) ⌝ }
-    ensures { λ r. ⌜ r ≡ onesFrom (now (bits .entry)) from count ⌝ }
+// How many bits of two runs are 1, each of as many bits as `count` says: the one from place `first`, the other from place `second`. Both in one loop: a run has
+// few bits, and a loop for each costs more than its turns.
+fn ones(bits: &[u8], first: usize, second: usize, count: usize) -> u32
+    requires { ⌜ (count ≤ 255) × Holds (now bits) (first + count) × Holds (now bits) (second + count) ⌝ }
+    ensures { λ r. ⌜ r ≡ onesFrom (now (bits .entry)) first count + onesFrom (now (bits .entry)) second count ⌝ }
 {
     let mut sum: u32 = 0;
     let mut j: usize = 0;
     while j < count {
-        sum += as_bit(bits[from + j]) as u32;
+        sum += (as_bit(bits[first + j]) + as_bit(bits[second + j])) as u32;
         j += 1;
     }
     sum
@@ -103,9 +104,7 @@ pub fn scan(length: usize, per: usize, half: usize, bits: &[u8], out: &mut [u8])
     let mut p: usize = 0;
     let mut q: usize = 0;
     while q < per {
-        let first = ones(bits, p, length);
-        let second = ones(bits, half + 4 + p, length);
-        out[q] = reading(first + second, 2 * length as u32);
+        out[q] = reading(ones(bits, p, half + 4 + p, length), 2 * length as u32);
         p += length;
         q += 1;
     }

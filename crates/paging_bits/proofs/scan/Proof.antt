@@ -11,7 +11,7 @@ use borrow.Author.Needs.{needs}
 use Rattle.laws.specs.Runs.{run}
 use Rattle.laws.proofs.Runs.{run-none}
 use Rattle.paging_bits.specs.Bits.{readingOf, readingsOf}
-use Rattle.paging_bits.proofs.Counted.{run-ends, next-run, counted, sum-most, row-turn}
+use Rattle.paging_bits.proofs.Counted.{run-ends, next-run, counted, row-turn}
 use Rattle.paging_bits.proofs.scan.Statement.{statement}
 use Rattle.paging_bits.proofs.scan.Tie as tie
 
@@ -35,26 +35,20 @@ filled L N H bits out out₀ n e v = v ∙ ap (λ (k : ℕ). run (λ (i : ℕ). 
 loop-holds : tie.Need-loop-holds Inv-loop μ-loop
 loop-holds c = (omega arith, omega arith, refl, run-none _ _)
 
-ones-requires : tie.Need-ones-requires Inv-loop μ-loop
-ones-requires c κs = omega (arith, ends c)
-
 add-ones : tie.Need-add-ones Inv-loop μ-loop
 add-ones c = omega arith
 
 add-ones-2 : tie.Need-add-ones-2 Inv-loop μ-loop
-add-ones-2 c = omega (arith, ends (c .before))
+add-ones-2 c = omega (arith, ends c)
 
-ones-requires-2 : tie.Need-ones-requires-2 Inv-loop μ-loop
-ones-requires-2 c κs = omega (arith, ends (c .before))
-
-add-reading : tie.Need-add-reading Inv-loop μ-loop
-add-reading c = omega (arith, ends (c .before .before), sum-most _ _ _ _ _ _ (c .before .ones .ensures) (c .ones2 .ensures))
+ones-requires : tie.Need-ones-requires Inv-loop μ-loop
+ones-requires c κs = omega (arith, ends c)
 
 cast-reading : tie.Need-cast-reading Inv-loop μ-loop
 cast-reading c = omega arith
 
 mul-reading : tie.Need-mul-reading Inv-loop μ-loop
-mul-reading c = omega (arith, ends (c .before .before))
+mul-reading c = omega (arith, ends (c .before))
 
 reading-requires : tie.Need-reading-requires Inv-loop μ-loop
 reading-requires c κs = search needs
@@ -63,7 +57,7 @@ slice-write-out : tie.Need-slice-write-out Inv-loop μ-loop
 slice-write-out c = omega arith
 
 add-p : tie.Need-add-p Inv-loop μ-loop
-add-p c = omega (arith, ends (c .before .before .before))
+add-p c = omega (arith, ends (c .before .before))
 
 add-q : tie.Need-add-q Inv-loop μ-loop
 add-q c = omega arith
@@ -73,11 +67,11 @@ loop-less c = omega arith
 
 loop-again : tie.Need-loop-again Inv-loop μ-loop
 loop-again c =
-    let t = c .before .before .before in
+    let t = c .before .before in
     let l = t .before .loop in
     let s = t .before .before .before .before in
     let a = s .args in
-    let read = counted (a .length) (a .per) (a .half) (l .q) (l .p) _ _ _ (now (a .bits)) (s .pre .0) (t .loop-test .taken) (l .inv .1) (c .before .before .ones .ensures) (c .before .ones2 .ensures) (c .reading .ensures) in (
+    let read = counted (a .length) (a .per) (a .half) (l .q) (l .p) _ _ (now (a .bits)) (s .pre .0) (t .loop-test .taken) (l .inv .1) (c .before .ones .ensures) (c .reading .ensures) in (
       omega arith,
       next-run (a .length) (l .q) (l .p) (l .inv .1),
       length-set (l .out) (l .q) (c .reading .result) ∙ l .inv .2,
@@ -99,11 +93,9 @@ scan-spec =
     Inv-loop
     μ-loop
     loop-holds
-    ones-requires
     add-ones
     add-ones-2
-    ones-requires-2
-    add-reading
+    ones-requires
     cast-reading
     mul-reading
     reading-requires

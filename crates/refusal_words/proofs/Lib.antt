@@ -1,3 +1,2 @@
-pub mod Chain
 pub mod Putting
 pub mod Unique

@@ -1,19 +1,18 @@
--- A text is copied from the front, one byte a turn, and what `put` then answers and leaves. Cited by the proofs of `copy` and `put`.
+-- A text is copied from the front, one byte a turn, and what `put` then answers and leaves. Cited by the proofs of `copy`, `put` and `words`.
 -- Assumes nothing.
 use mathlib.Core.Path.{_≡_, refl, sym, ap, _∙_}
+use mathlib.Core.Bool.{Bool, true, false}
 use mathlib.Core.List.{List, [], _∷_, _++_}
-use Prim.Native.Nat.{ℕ, suc, _+_, _-_, _≤_, _<_}
+use Prim.Native.Nat.{ℕ, zero, suc, _+_, _-_, _≤_, _<_}
 use native.Mathlib.Numerals.{add-one}
 use native.Mathlib.Omega.{arith}
-use lib.ListN.{length, take, drop, set, getD}
+use lib.ListN.{length, take, drop, set, getD, List·getD-eq-default}
 use lib.Seq.{drop-cons, set-at, append-snoc, take-suc, take-all, length-take-le}
-use lib.Dec.{ltb}
-use borrow.Author.Tests.{lt-ltb, le-ltb}
-use Rattle.refusals.specs.Refusals.{Answer, refused, answered, _leaving_, firstOf, answer}
+use lib.Dec.{eqb, ltb}
+use borrow.Author.Tests.{lt-ltb, le-ltb, eqb-false}
+use Rattle.refusals.specs.Refusals.{Answer, refused, answered, Outcome, _leaving_, firstOf, answer}
 use Rattle.refusals.proofs.First.{first-holds, first-passes, answer-refused, answer-answered, after-refused, after-answered}
-use Rattle.refusal_words.specs.Words.{wordsOf, putting, wordsOutcome}
-use Rattle.refusal_words.specs.Inside.{chained, behind, Speaks}
-use Rattle.refusal_words.proofs.Chain.{behind-chained, none-left, size-here, text-here, ends-within}
+use Rattle.refusal_words.specs.Words.{conditions, wordsOf, putting, wordsOutcome}
 
 -- one more byte
 pub copy-turn : (text was out : List ℕ) (i : ℕ) → i < length text → i < length was → out ≡ take i text ++ drop i was
@@ -51,33 +50,33 @@ module _ (text was : List ℕ) where
       ∙ ap (λ (a : Answer ℕ). a leaving (text ++ drop (length text) was)) (sym (answer-answered n (length text) z))
       ∙ ap (λ (m : List ℕ). answer n (length text) leaving m) (sym (after-answered n was (text ++ drop (length text) was) z))
 
--- ---- `put`, by what stands at the number's place
+-- ---- `words`, by the number that it met
 
-module _ (chain : List ℕ) (first number : ℕ) (was : List ℕ) (speaks : Speaks chain first number) (at : ℕ) (e : drop at chain ≡ behind (number - first) chain) where
-  links : drop at chain ≡ chained (drop (number - first) (speaks .links))
-  links = e ∙ ap (λ (l : List ℕ). behind (number - first) l) (speaks .made) ∙ behind-chained (number - first) (speaks .links)
+pub by-number : {o : Outcome ℕ (List ℕ)} (number k : ℕ) (was : List ℕ) → number ≡ k → o ≡ putting (wordsOf k) was → o ≡ wordsOutcome number was
+unfolding wordsOutcome
+by-number number k was e p = p ∙ ap (λ (n : ℕ). putting (wordsOf n) was) (sym e)
 
-  pub words-none : length chain ≤ at → (answered 0 leaving was) ≡ wordsOutcome number was
-  unfolding wordsOutcome
-  words-none h =
-      let w : [] ≡ wordsOf number = sym (none-left chain at (number - first) (speaks .links) links h) ∙ speaks .said in
-      put-written [] was was (omega arith) refl ∙ ap (λ (t : List ℕ). putting t was) w
+-- a number above b that is none of the next k is above them
+abbrev NoneFrom : ℕ → ℕ → ℕ → Type 0
+NoneFrom b zero n = Unit
+NoneFrom b (suc k) n = NoneFrom b k n × (n ≡ b + suc k → ⊥)
 
-  module _ (h : at < length chain) where
-    size : getD chain at 0 ≡ length (wordsOf number)
-    size = size-here chain at (number - first) (speaks .links) links h ∙ ap length (speaks .said)
+pub beyond : (b k n : ℕ) → NoneFrom b k n → b < n → b + k < n
+beyond b zero n r h = omega arith
+beyond b (suc k) n r h = let m = beyond b k n (r .0) h in omega (arith, r .1)
 
-    pub words-within : at + 1 + getD chain at 0 ≤ length chain
-    words-within = ends-within chain at (number - first) (speaks .links) links h
+pub above : {k n : ℕ} → k < n → n ≤ k → ⊥
+above l m = omega arith
 
-    pub words-short : length was < getD chain at 0 → (refused 11 leaving was) ≡ wordsOutcome number was
-    unfolding wordsOutcome
-    words-short s = put-short (wordsOf number) was (omega (arith, size))
+pub last-one : (b k n : ℕ) → NoneFrom b k n → b < n → n ≤ b + k + 1 → n ≡ b + k + 1
+last-one b k n r h e = let m = beyond b k n r h in omega arith
 
-    pub words-written : (part out : List ℕ) → part ≡ take (getD chain at 0) (drop (at + 1) chain) → getD chain at 0 ≤ length was → out ≡ part ++ drop (length part) was
-        → (answered (getD chain at 0) leaving out) ≡ wordsOutcome number was
-    unfolding wordsOutcome
-    words-written part out p s o =
-        let w : part ≡ wordsOf number = p ∙ text-here chain at (number - first) (speaks .links) links h ∙ speaks .said in
-        ap (λ (k : ℕ). answered k leaving out) size
-        ∙ put-written (wordsOf number) was out (omega (arith, size)) (o ∙ ap (λ (l : List ℕ). l ++ drop (length l) was) w)
+-- a number that is no refusal's
+wordless : (z : Bool) (n : ℕ) → eqb n 0 ≡ z → (z ≡ false → 21 < n) → wordsOf n ≡ []
+unfolding wordsOf conditions
+wordless true n e h = simp e
+wordless false n e h = let far = h refl in simp (e, List·getD-eq-default conditions "" {n = n - 1} (omega arith))
+
+pub no-words : {o : Outcome ℕ (List ℕ)} (number : ℕ) (was : List ℕ) → ((number ≡ 0 → ⊥) → 21 < number) → o ≡ putting [] was → o ≡ wordsOutcome number was
+unfolding wordsOutcome
+no-words number was h p = p ∙ ap (λ (t : List ℕ). putting t was) (sym (wordless (eqb number 0) number refl (λ e. h (eqb-false number 0 e))))

@@ -50,7 +50,7 @@ fn fill_from(t: &[u8], w: u32, n: u32, by: u32, count: usize, out: &mut [u8])
     }
 }
 
-// Element chip + by of a cell's row.
+// Element chip + by of a cell's row. Public for the crate midambles.
 pub fn chip_at(cell: u32, burst: u32, chip: u32, by: u32) -> u8
     requires { ⌜ (cell < 128) × (1 ≤ chip) × (chip ≤ 512) × (by < 2048) ⌝ }
     ensures { λ r. ⌜ r ≡ element (codeOf burst .period) (getD (rowsOf burst) cell []) (chip + by) ⌝ }
@@ -63,7 +63,7 @@ pub fn chip_at(cell: u32, burst: u32, chip: u32, by: u32) -> u8
     element_in(&t, 57, cell, chip, by)
 }
 
-// A whole midamble of a cell's row, shifted.
+// A whole midamble of a cell's row, shifted. Public for the crate midambles.
 pub fn fill_chips(cell: u32, burst: u32, by: u32, out: &mut [u8])
     requires { ⌜ (cell < 128) × (by < 2048) × (codeOf burst .length ≤ length (now out)) ⌝ }
     ensures { λ _. ⌜ now (out .exit) ≡ run (λ (i : ℕ). element (codeOf burst .period) (getD (rowsOf burst) cell []) (i + by)) (codeOf burst .length) ++ drop (codeOf burst .length) (now (out .entry)) ⌝ }

@@ -1,4 +1,6 @@
 // The calls on training sequences.
+ghost use mathlib.Core.Path.{_≡_};
+ghost use Rattle.lesson_replies.specs.Replies.{chipAsked};
 use crate::replies;
 use crate::replies::Reply;
 use crate::say;
@@ -6,7 +8,9 @@ use lesson_words::numbers::Values;
 use midambles::ChipAnswer;
 use midambles::MidambleAnswer;
 
-pub fn chip(v: Values) -> Reply {
+pub fn chip(v: Values) -> Reply
+    ensures { λ r. ⌜ r ≡ chipAsked v ⌝ }
+{
     match midambles::midamble_chip(v.first, v.second, v.third, v.fourth, v.fifth) {
         ChipAnswer::Refused(n) => replies::refused(n),
         ChipAnswer::Power(p) => replies::one(replies::CHIP, p as u32),

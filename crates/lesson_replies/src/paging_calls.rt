@@ -1,4 +1,6 @@
 // The calls on paging bits.
+ghost use mathlib.Core.Path.{_≡_};
+ghost use Rattle.lesson_replies.specs.Replies.{ownerAsked};
 ghost use Prim.Native.Nat.{_≤_};
 use crate::replies;
 use crate::replies::Reply;
@@ -36,7 +38,9 @@ pub fn indicator(v: Values) -> Reply {
     }
 }
 
-pub fn owner(v: Values) -> Reply {
+pub fn owner(v: Values) -> Reply
+    ensures { λ r. ⌜ r ≡ ownerAsked v ⌝ }
+{
     match paging::owner(v.first, v.second, v.third) {
         OwnerAnswer::Refused(n) => replies::refused(n),
         OwnerAnswer::Reserved => replies::one(replies::RESERVED, 0),

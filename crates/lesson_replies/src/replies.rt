@@ -1,4 +1,7 @@
-// Replies that are numbers: a refusal, or one of the forms below with its numbers.
+// Replies that are numbers: a refusal, or one of the forms below with its numbers. Which form a call's answer takes, and with which numbers, is promised; how `said`
+// writes it is tested.
+ghost use mathlib.Core.Path.{_≡_};
+ghost use Rattle.lesson_replies.specs.Replies.{refusedReply, lineReply};
 use crate::say;
 
 pub struct Reply {
@@ -38,7 +41,9 @@ pub const DATA2: u32 = 11;
 
 pub const GUARD: u32 = 12;
 
-pub fn refused(refusal: u32) -> Reply {
+pub fn refused(refusal: u32) -> Reply
+    ensures { λ r. ⌜ r ≡ refusedReply refusal ⌝ }
+{
     Reply {
         refusal,
         form: 0,
@@ -51,7 +56,9 @@ pub fn refused(refusal: u32) -> Reply {
     }
 }
 
-pub fn two(form: u32, a: u32, b: u32) -> Reply {
+pub fn two(form: u32, a: u32, b: u32) -> Reply
+    ensures { λ r. ⌜ r ≡ lineReply form a b ⌝ }
+{
     Reply {
         refusal: 0,
         form,
@@ -64,7 +71,9 @@ pub fn two(form: u32, a: u32, b: u32) -> Reply {
     }
 }
 
-pub fn one(form: u32, a: u32) -> Reply {
+pub fn one(form: u32, a: u32) -> Reply
+    ensures { λ r. ⌜ r ≡ lineReply form a 0 ⌝ }
+{
     two(form, a, 0)
 }
 

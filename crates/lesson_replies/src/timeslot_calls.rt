@@ -1,4 +1,6 @@
 // The calls on the parts of a timeslot.
+ghost use mathlib.Core.Path.{_≡_};
+ghost use Rattle.lesson_replies.specs.Replies.{symbolReply, atAsked};
 use crate::replies;
 use crate::replies::Reply;
 use crate::say;
@@ -50,7 +52,9 @@ pub fn parts(out: &mut [u8; 4096], at: usize, v: Values) -> usize {
     }
 }
 
-fn symbol(s: Symbol) -> Reply {
+fn symbol(s: Symbol) -> Reply
+    ensures { λ r. ⌜ r ≡ symbolReply s ⌝ }
+{
     match s {
         Symbol::Data1(k) => replies::one(replies::DATA1, k),
         Symbol::Tfci1(k) => replies::one(replies::TFCI1, k),
@@ -60,7 +64,9 @@ fn symbol(s: Symbol) -> Reply {
     }
 }
 
-pub fn at_chip(v: Values) -> Reply {
+pub fn at_chip(v: Values) -> Reply
+    ensures { λ r. ⌜ r ≡ atAsked v ⌝ }
+{
     let d = numbers::direction(v.second);
     match timeslots::at(v.first, d, v.third, v.fourth, v.fifth, v.sixth) {
         AtAnswer::Refused(n) => replies::refused(n),

@@ -1,12 +1,12 @@
 // Lines end in LF; words are what stands between blanks, up to a comment (docs/LESSONS.md, "Lines").
-// No call of document 01: public for the crate bench only, which asks from a place within the text.
+// No call of document 01: public for the crate bench, which asks from a place within the text.
 ghost use mathlib.Core.Path.{_≡_};
 ghost use Prim.Native.Nat.{_+_, _-_, _≤_};
 ghost use lib.ListN.{length, take, drop};
 ghost use Rattle.lesson_words.specs.Words.{isByte, isBlankByte, isInk, until, wordIn, restOf, sameText};
 ghost use Rattle.lesson_words.specs.Inside.{numberIn, kindsIn};
 
-// The first place from `from` on that holds a byte, or the end.
+// The first place from `from` on that holds a byte, or the end. Public for the crate bench.
 pub fn find(bytes: &[u8], from: usize, byte: u8) -> usize
     requires { ⌜ from ≤ length (now bytes) ⌝ }
     ensures { λ r. ⌜ (r ≤ length (now (bytes .entry))) × (r ≡ from + until (isByte byte) (drop from (now (bytes .entry)))) ⌝ }
@@ -64,7 +64,7 @@ pub struct Span {
     pub to: usize,
 }
 
-// The first word from a place on; nothing, at the end of the text, where there is none.
+// The first word from a place on; nothing, at the end of the text, where there is none. Public for the crate bench.
 pub fn word(text: &[u8], at: usize) -> Span
     requires { ⌜ at ≤ length (now text) ⌝ }
     ensures { λ r. ⌜ (r .from ≤ r .to) × (r .to ≤ length (now (text .entry))) × (take (r .to - r .from) (drop (r .from) (now (text .entry))) ≡ wordIn (drop at (now (text .entry)))) × (drop (r .to) (now (text .entry)) ≡ restOf (drop at (now (text .entry)))) ⌝ }

@@ -59,6 +59,7 @@ fn repeat(out: &mut [u8], count: usize, to: usize)
 }
 
 // All bits of a frame with these settings, in time order, into the first places of `out`: the first half, the reserved four, and the second half, which is as the first.
+// Public for the crate paging.
 pub fn fill(length: usize, per: usize, half: usize, settings: &[u8], out: &mut [u8])
     requires { ⌜ Fits length per half × Holds (now settings) per × Holds (now out) (bitsIn half) ⌝ }
     ensures { λ _. ⌜ now (out .exit) ≡ burstOf length per (now (settings .entry)) ++ drop (bitsIn half) (now (out .entry)) ⌝ }
@@ -96,7 +97,8 @@ fn reading(ones: u32, count: u32) -> u8
     2
 }
 
-// The readings of all indicators, into the first places of `out`: each one's run in the first half and its run in the second.
+// The readings of all indicators, into the first places of `out`: each one's run in the first half and its run in the second. Public for the
+// crate paging.
 pub fn scan(length: usize, per: usize, half: usize, bits: &[u8], out: &mut [u8])
     requires { ⌜ Fits length per half × Holds (now bits) (bitsIn half) × Holds (now out) per ⌝ }
     ensures { λ _. ⌜ now (out .exit) ≡ readingsOf length per half (now (bits .entry)) ++ drop per (now (out .entry)) ⌝ }

@@ -51,7 +51,7 @@ fn put_in(row: [Booking; 40], p: usize, x: Booking) -> [Booking; 40]
     out
 }
 
-// The seat with one booking more, in its place.
+// The seat with one booking more, in its place. Public for the crate classbook.
 pub fn with_booking(s: Seat, x: Booking) -> Seat
     requires { ⌜ (seatOk s ≡ true) × (held s < 40) ⌝ }
     ensures { λ r. ⌜ r ≡ withPlan s (insert x (bookings s)) ⌝ }
@@ -79,7 +79,7 @@ fn is_named(y: Booking, timeslot: u32, factor: u32, index: u32) -> bool
     (y.timeslot as u32 == timeslot) & ((y.factor as u32 == factor) & (y.index as u32 == index))
 }
 
-// The place among the first n of the booking that is named by timeslot and code, or n where there is none.
+// The place among the first n of the booking that is named by timeslot and code, or n where there is none. Public for the crate classbook.
 pub fn place_named(row: [Booking; 40], n: usize, timeslot: u32, factor: u32, index: u32) -> usize
     requires { ⌜ n ≤ 40 ⌝ }
     ensures { λ r. ⌜ (r ≡ placeNamed timeslot factor index (take n row)) × (leb n r ≡ every (λ y. not (names timeslot factor index y)) (take n row)) ⌝ }
@@ -113,7 +113,7 @@ fn take_out(row: [Booking; 40], p: usize, blank: Booking) -> [Booking; 40]
     out
 }
 
-// The seat without the booking at a place that is in use.
+// The seat without the booking at a place that is in use. Public for the crate classbook.
 pub fn without_at(s: Seat, p: usize) -> Seat
     requires { ⌜ (seatOk s ≡ true) × (p < held s) ⌝ }
     ensures { λ r. ⌜ r ≡ withPlan s (removeAt p (bookings s)) ⌝ }

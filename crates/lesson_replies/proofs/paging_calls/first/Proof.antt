@@ -1,4 +1,4 @@
--- `bench::paging_calls::first` is safe and ends: there are more than n bytes.
+-- `lesson_replies::paging_calls::first` is safe and ends: there are more than n bytes.
 -- Assumes nothing.
 use mathlib.Core.Path.{sym}
 use native.Mathlib.Nat.{le-of-lt}

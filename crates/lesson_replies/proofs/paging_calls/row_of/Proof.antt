@@ -1,4 +1,4 @@
--- `bench::paging_calls::row_of` is safe and ends: the measure is how many bytes of the word are left.
+-- `lesson_replies::paging_calls::row_of` is safe and ends: the measure is how many bytes of the word are left.
 -- Assumes nothing.
 use Prim.Native.Nat.{_≤_, _-_}
 use lib.ListN.{length}

@@ -166,6 +166,7 @@ pub fn lines() -> Vec<Line> {
     let cells = (0..60).collect();
     let seats = || (0..60).map(|i| i % 15).collect();
     let more = (0..60).map(|i| (i % 15, wanted(8 + i / 15))).collect();
+    let access = (0..60).map(|i| (i % 15, [wanted(i % 8)[0], 0, 3, 16, 2, 9, 0, 0])).collect();
     let fewer = (0..60).map(|i| (i % 15, wanted(i % 8)[0])).collect();
     let (mut ours, mut theirs) = ([0; 320], [0; 320]);
     vec![
@@ -180,6 +181,12 @@ pub fn lines() -> Vec<Line> {
         Line::new(
             "book",
             more,
+            move |&(seat, x)| library::book(*black_box(&b), seat, x),
+            move |&(seat, x)| plain::book(*black_box(&b), seat, x),
+        ),
+        Line::new(
+            "book, type 3 beside type 1",
+            access,
             move |&(seat, x)| library::book(*black_box(&b), seat, x),
             move |&(seat, x)| plain::book(*black_box(&b), seat, x),
         ),

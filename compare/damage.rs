@@ -8,6 +8,10 @@ const SETTINGS_BYTES: usize = 7;
 const BOOKING_BYTES: usize = 8;
 const PLACES: usize = 40;
 
+/// Where these stand in a booking, whose first byte is the timeslot.
+const BURST_TYPE: usize = 2;
+const USER: usize = 5;
+
 /// Where the byte of a seat that says whether it is open stands; its settings and its count follow.
 fn seat_place(seat: usize) -> usize {
     SEAT_BYTES * seat
@@ -26,7 +30,9 @@ pub fn broken(dice: &mut Dice, whole: &MqBook) -> MqBook {
     let (live, held) = (b.0[start] == 1, b.0[start + 6] as usize);
     let (first, second) = (booking_place(seat, 0), booking_place(seat, 1));
     let last = booking_place(seat, PLACES - 1);
-    match dice.below(9) {
+    let timeslot = |place| b.0[booking_place(seat, place)];
+    let together = (1..held).find(|&place| timeslot(place) == timeslot(place - 1)).unwrap_or(held);
+    match dice.below(10) {
         0 => b.0 = [255; BOOK_BYTES],
         // neither open nor closed
         1 => b.0[start] = 2 + dice.below(254) as u8,
@@ -46,6 +52,12 @@ pub fn broken(dice: &mut Dice, whole: &MqBook) -> MqBook {
             }
         }
         8 if held >= 2 => b.0.copy_within(first..first + BOOKING_BYTES, second),
+        // exactly one of two in a timeslot is type 2
+        9 if together < held => {
+            let booking = booking_place(seat, together);
+            b.0[booking + BURST_TYPE] = if b.0[booking + BURST_TYPE] == 2 { 1 } else { 2 };
+            b.0[booking + USER] = 3;
+        }
         // no k
         _ => b.0[start + 3] = 15 + dice.below(241) as u8,
     }

@@ -37,9 +37,9 @@ extern "C" {
 /* ---- version ---------------------------------------------------------------------------------------------------------------------------- */
 
 #define MQ_VERSION_MAJOR 0
-#define MQ_VERSION_MINOR 2
+#define MQ_VERSION_MINOR 3
 #define MQ_VERSION_PATCH 0
-#define MQ_VERSION 200          /* major times 10000, minor times 100, patch */
+#define MQ_VERSION 300          /* major times 10000, minor times 100, patch */
 #define MQ_ABI 1                /* libmqarbset.so.MQ_ABI; it changes when the book's size or a call's parameters do */
 
 /* The library that runs, beside the header that a program was compiled with: MQ_VERSION there, and the bytes of a book there. A program that is
@@ -327,6 +327,8 @@ MQ_MUST_USE static inline uint32_t mq_open(mq_book *book, uint32_t seat, uint32_
  *   index        1 to factor
  *   user         1 to the seat's count of the burst type
  *   tfci, tpc    TFCI and TPC bits, as for mq_parts
+ * In one timeslot two bookings of a seat clash (17) if their directions differ, or if exactly one of them is type 2 (types 1 and 3 may lie beside
+ * each other), or if their codes share a leaf.
  * Refusals: 2, 4 to 8, 12 to 14, 16 to 20. Stack: 48 KB. */
 MQ_MUST_USE static inline uint32_t mq_book_code(mq_book *book, uint32_t seat, uint32_t timeslot, uint32_t direction, uint32_t burst, uint32_t factor, uint32_t index,
                                                 uint32_t user, uint32_t tfci, uint32_t tpc)

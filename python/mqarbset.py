@@ -22,7 +22,7 @@ __all__ = [
     'UP', 'DOWN', 'OFF', 'ON', 'TORN', 'Part', 'Span', 'Parts', 'Place', 'Indicator', 'Booking', 'Book', 'Refused',
     'refusal_text', 'midamble_chip', 'midamble', 'parts', 'at', 'beacon', 'indicator', 'owner', 'page', 'read_page',
 ]
-__version__ = '0.2.0'
+__version__ = '0.3.0'
 
 UP, DOWN = 0, 1
 OFF, ON, TORN = 0, 1, 2
@@ -363,7 +363,8 @@ class Book:
 
         seat 0 to 15, open; timeslot 0 to 14; direction UP or DOWN; burst type 1 to 3 (DOWN: 1, 2); factor
         1, 2, 4, 8, 16 (DOWN: 1, 16); index 1 to factor; user 1 to the seat's count; tfci and tpc as for
-        parts. Refused with 2, 4 to 8, 12 to 14, 16 to 20.
+        parts. In one timeslot two bookings of a seat clash (17) if their directions differ, or if exactly
+        one of them is type 2, or if their codes share a leaf. Refused with 2, 4 to 8, 12 to 14, 16 to 20.
         """
         self._changed('mq_book_value', seat=seat, timeslot=timeslot, direction=direction, burst=burst,
                       factor=factor, index=index, user=user, tfci=tfci, tpc=tpc)

@@ -1,4 +1,5 @@
-//! Document 01, "The class book", with the rules (a) to (f) of "Beacon timeslots (clauses 5.3.4, 5.5)".
+//! Document 01, "The class book", with the rules (a) to (f) of "Beacon timeslots (clauses 5.3.4, 5.5)"; which burst
+//! types clash is document 02's.
 //!
 //! The book here is a list of bookings for each open seat, in the order in which they were made. "Its form inside is
 //! the team's choice": this one holds nothing twice.
@@ -67,12 +68,17 @@ impl Record {
         self.leaves().any(|leaf| other.leaves().contains(&leaf))
     }
 
-    /// "Two bookings of one seat clash if their timeslots are equal and their directions differ, or their burst types
-    /// differ, or their codes overlap."
+    /// Document 02: "of two bookings in a timeslot, the types clash if exactly one of them is type 2."
+    fn type_clashes_with(&self, other: &Record) -> bool {
+        (self.burst_type == 2) != (other.burst_type == 2)
+    }
+
+    /// "Two bookings of one seat clash if their timeslots are equal and their directions differ", or their types clash,
+    /// "or their codes overlap".
     fn clashes_with(&self, other: &Record) -> bool {
         self.timeslot == other.timeslot
             && (self.direction != other.direction
-                || self.burst_type != other.burst_type
+                || self.type_clashes_with(other)
                 || self.overlaps(other))
     }
 

@@ -28,6 +28,15 @@ fn small_code_factor(dice: &mut Dice, direction: Direction) -> u32 {
     }
 }
 
+/// A burst type that lies beside this booking in its timeslot and direction: 1 or 3 beside 1 and 3 in uplink, and
+/// otherwise the same.
+fn type_beside(dice: &mut Dice, there: &Record) -> u32 {
+    match (there.direction, there.burst_type) {
+        (Direction::Up, 1 | 3) => dice.pick(&[1, 3]),
+        (_, burst_type) => burst_type,
+    }
+}
+
 /// A booking that goes by direction and burst type of what the seat holds in the timeslot, and by some of the beacon
 /// rule; it may be refused all the same.
 pub fn aimed(dice: &mut Dice, at_beacons: u32, settings: Settings, held: &[Record]) -> Record {
@@ -43,7 +52,7 @@ pub fn aimed(dice: &mut Dice, at_beacons: u32, settings: Settings, held: &[Recor
         (direction, burst_type) = (Direction::Down, 1);
     }
     if let Some(there) = held.iter().find(|there| there.timeslot == timeslot) {
-        (direction, burst_type) = (there.direction, there.burst_type);
+        (direction, burst_type) = (there.direction, type_beside(dice, there));
     }
     let crowded = held.len() > MOST_OF_A_SEAT / 2;
     let factor = if crowded { 16 } else { small_code_factor(dice, direction) };

@@ -1,13 +1,13 @@
-//! The second, independent program: plain Rust, standard library only, written from document 01 and the line formats of
-//! docs/LESSONS.md, without sight of the proved library.
+//! The second, independent program: plain Rust, standard library only, written from document 01, what document 02 mends
+//! in it, and the line formats of docs/LESSONS.md, without sight of the proved library.
 //!
 //! The rules stand here as naively as they stand in document 01; a module is a chapter of it. The others read and
-//! answer lessons (`calls`, `lesson`), make them (`every`, `random` and what it uses, `noise`), and check document
-//! 01's figures (`selftest`). `main.rs` is the program; `compare/` puts the same model beside the library over C.
+//! answer lessons (`calls`, `lesson`), make them (`every`, `random` and what it uses, `noise`), and check the figures
+//! (`selftest`). `main.rs` is the program; `compare/` puts the same model beside the library over C.
 //!
 //! `tools/second` builds both, once, into target/second.
 
-// ---- document 01
+// ---- document 01, as document 02 mends it
 pub mod beacons;
 pub mod book;
 pub mod midambles;

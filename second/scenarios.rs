@@ -11,7 +11,9 @@ pub fn all(put: Put) -> io::Result<()> {
     room(put)?;
     openings(put)?;
     bookings(put)?;
-    kept_bookings(put)
+    kept_bookings(put)?;
+    burst_types(put)?;
+    types_1_and_3(put)
 }
 
 /// Seat 3 of "Figures to check".
@@ -165,4 +167,66 @@ fn kept_bookings(put: Put) -> io::Result<()> {
     }
     put("close 9".to_string())?;
     put("list 9".to_string())
+}
+
+/// Direction, burst type, and factor and index of a booking.
+type Burst = (Direction, u32, [u32; 2]);
+
+/// Three codes of uplink that share no leaf; by first leaf the second goes first, then the third.
+const APART: [[u32; 2]; 3] = [[4, 3], [8, 1], [16, 3]];
+
+/// Burst types in one timeslot of seat 7, whose beacon timeslots are 3 and 11: every two, each in both directions, the
+/// second code sharing no leaf with the first, being the same, and covering it; and every three in uplink.
+fn burst_types(put: Put) -> io::Result<()> {
+    put("open 7 7 2 3 16 6".to_string())?;
+    for timeslot in [5, 3, 11] {
+        for (first_direction, first_type) in directions_and_types() {
+            for (direction, burst_type) in directions_and_types() {
+                for code in [[16, 5], [16, 3], [1, 1]] {
+                    let first = (first_direction, first_type, [16, 3]);
+                    in_turn(put, timeslot, &[first, (direction, burst_type, code)])?;
+                }
+            }
+        }
+    }
+    for n in 0..27 {
+        let types = [1 + n / 9, 1 + n / 3 % 3, 1 + n % 3];
+        in_turn(put, 5, &[0, 1, 2].map(|place| (Direction::Up, types[place], APART[place])))?;
+    }
+    put("close 7".to_string())
+}
+
+/// Both directions, each with every burst type.
+fn directions_and_types() -> impl Iterator<Item = (Direction, u32)> {
+    [Direction::Up, Direction::Down]
+        .into_iter()
+        .flat_map(|direction| [1, 2, 3].map(|burst_type| (direction, burst_type)))
+}
+
+/// Seat 7 makes these bookings in a timeslot, lists what it holds, and cancels each of them, accepted or not.
+fn in_turn(put: Put, timeslot: u32, bursts: &[Burst]) -> io::Result<()> {
+    for (direction, burst_type, [factor, index]) in bursts {
+        let direction = direction.word();
+        put(format!("book 7 {timeslot} {direction} {burst_type} {factor} {index} 3 0 0"))?;
+    }
+    put("list 7".to_string())?;
+    for (_, _, [factor, index]) in bursts {
+        put(format!("cancel 7 {timeslot} {factor} {index}"))?;
+    }
+    Ok(())
+}
+
+/// Seat 8 asks for types 1 and 3 by turns in timeslots 1 to 14 of uplink, for two more than it may hold, and then for
+/// type 2 in each of them.
+fn types_1_and_3(put: Put) -> io::Result<()> {
+    put("open 8 8 1 0 16 6".to_string())?;
+    for (place, [factor, index]) in (0..).zip(APART) {
+        for timeslot in 1..=14 {
+            let burst_type = [1, 3][(timeslot + place) % 2];
+            put(format!("book 8 {timeslot} up {burst_type} {factor} {index} {timeslot} 0 0"))?;
+        }
+    }
+    (1..=14).try_for_each(|timeslot| put(format!("book 8 {timeslot} up 2 16 16 6 0 0")))?;
+    put("list 8".to_string())?;
+    put("close 8".to_string())
 }

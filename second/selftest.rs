@@ -1,4 +1,5 @@
-//! Document 01, "Figures to check", and the few facts that the chapters state beside their rules.
+//! Document 01, "Figures to check", and the few facts that the chapters state beside their rules; and the burst types
+//! of document 02.
 
 use crate::beacons::{beacon_timeslots, words};
 use crate::book::{Book, Record, Settings, MOST_OF_A_SEAT};
@@ -11,7 +12,7 @@ use crate::timeslots::{timeslot, Direction, Part, Question, Timeslot, CHIPS};
 use std::collections::HashSet;
 use std::io::{self, Write};
 
-/// A figure: its name, what this program gives, what document 01 says.
+/// A figure: its name, what this program gives, what the documents say.
 struct Figure {
     name: String,
     given: String,
@@ -29,7 +30,7 @@ pub fn print(out: &mut dyn Write, rows: &Rows) -> io::Result<bool> {
         if given == wanted {
             writeln!(out, "ok {name}: {given}")?;
         } else {
-            writeln!(out, "FAILED {name}: {given}, document 01 says {wanted}")?;
+            writeln!(out, "FAILED {name}: {given}, the documents say {wanted}")?;
             all_right = false;
         }
     }
@@ -44,6 +45,7 @@ fn figures(rows: &Rows) -> Vec<Figure> {
     figures.extend(beacon_figures());
     figures.extend(paging_figures());
     figures.extend(seat_3_figures());
+    figures.extend(burst_type_figures());
     figures.extend(room_figures());
     figures.extend(damaged_book_figures());
     figures
@@ -244,6 +246,64 @@ fn seat_3_figures() -> Vec<Figure> {
         figure("seat 3, records left untouched", untouched, 43),
         figure("seat 3, a list in 39 records", reply(refused.map(|_| ())), "refused 11"),
         figure("seat 3, cell, case, k and counts", settings, "0, 1, 0, 16, 6"),
+    ]
+}
+
+/// The answers to bookings in one timeslot of a seat whose beacon timeslot is 0. Given are direction, burst type and
+/// index of each; the factor is 16, the user 3.
+fn in_timeslot(timeslot: u32, bookings: &[(Direction, u32, u32)]) -> String {
+    let mut book = Book::empty();
+    book.open(3, CELL_0).expect("this seat is opened");
+    let answers = bookings.iter().map(|&(direction, burst_type, index)| {
+        reply(book.book(3, Record { burst_type, ..plain(timeslot, direction, index, 3) }))
+    });
+    answers.collect::<Vec<String>>().join(", ")
+}
+
+/// Document 02: "of two bookings in a timeslot, the types clash if exactly one of them is type 2"; "beacon timeslots
+/// still take type 1 only".
+fn burst_type_figures() -> Vec<Figure> {
+    use Direction::{Down, Up};
+    let uplink = |first, second| in_timeslot(2, &[(Up, first, 3), (Up, second, 4)]);
+    let downlink = |first, second| in_timeslot(2, &[(Down, first, 3), (Down, second, 4)]);
+    let in_beacon = |bookings: &[_]| in_timeslot(0, bookings);
+    vec![
+        figure("type 3 beside type 1", uplink(1, 3), "ok, ok"),
+        figure("type 1 beside type 3", uplink(3, 1), "ok, ok"),
+        figure("type 2 beside type 2", uplink(2, 2), "ok, ok"),
+        figure("type 2 beside type 1", uplink(1, 2), "ok, refused 17"),
+        figure("type 1 beside type 2", uplink(2, 1), "ok, refused 17"),
+        figure("type 2 beside type 3", uplink(3, 2), "ok, refused 17"),
+        figure("type 3 beside type 2", uplink(2, 3), "ok, refused 17"),
+        figure("type 2 beside type 1 in downlink", downlink(1, 2), "ok, refused 17"),
+        figure("type 1 beside type 2 in downlink", downlink(2, 1), "ok, refused 17"),
+        figure(
+            "type 2 beside types 1 and 3",
+            in_timeslot(2, &[(Up, 1, 3), (Up, 3, 4), (Up, 2, 5)]),
+            "ok, ok, refused 17",
+        ),
+        figure(
+            "types 1 and 3 with one code",
+            in_timeslot(2, &[(Up, 1, 3), (Up, 3, 3)]),
+            "ok, refused 17",
+        ),
+        figure(
+            "types 1 and 3 in two directions",
+            in_timeslot(2, &[(Down, 1, 3), (Up, 3, 4)]),
+            "ok, refused 17",
+        ),
+        figure("beacon timeslot, type 3", in_beacon(&[(Up, 3, 3)]), "refused 18"),
+        figure(
+            "beacon timeslot, type 3 where type 1 is",
+            in_beacon(&[(Down, 1, 3), (Up, 3, 4)]),
+            "ok, refused 17",
+        ),
+        figure("beacon timeslot, type 2", in_beacon(&[(Down, 2, 3)]), "refused 18"),
+        figure(
+            "beacon timeslot, type 2 beside type 1",
+            in_beacon(&[(Down, 1, 3), (Down, 2, 4)]),
+            "ok, refused 17",
+        ),
     ]
 }
 

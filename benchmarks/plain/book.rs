@@ -163,7 +163,7 @@ impl Booking {
         if self.timeslot != y.timeslot {
             return false;
         }
-        if self.direction != y.direction || self.burst != y.burst {
+        if self.direction != y.direction || (self.burst == 2) != (y.burst == 2) {
             return true;
         }
         let (a, b) = (self.first_leaf(), y.first_leaf());

@@ -1,3 +1,4 @@
 pub mod Leaves
 pub mod Formed
+pub mod Types
 pub mod Order

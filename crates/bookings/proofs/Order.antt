@@ -1,9 +1,9 @@
 -- Among bookings in form, to stand in order without a clash is transitive, so that testing neighbours tests all pairs. Cited by the crate seats.
 -- Assumes nothing.
-use mathlib.Core.Path.{_≡_, sym, ap, _∙_}
+use mathlib.Core.Path.{_≡_, sym, ap}
 use mathlib.Core.Logic.{_⊎_, ⊎-elim}
 use mathlib.Core.Bool.{true, false, not, _||_, and-false}
-use Prim.Native.Nat.{ℕ, _+_, _≤_, _<_}
+use Prim.Native.Nat.{_+_, _≤_, _<_}
 use native.Mathlib.Omega.{arith}
 use lib.Dec.{eqb, ltb}
 use borrow.Author.Tests.{ltb-true, ltb-false, lt-ltb, le-ltb, eqb-true, eq-eqb, not-true, not-false}
@@ -15,21 +15,15 @@ use Rattle.conditions.specs.Conditions.{isDown}
 use Rattle.bookings.specs.declared.Booking.{Booking}
 use Rattle.bookings.specs.Bookings.{leavesOf, leaf, overlaps, sameDirection, mixed, clash, key, comes, fine}
 use Rattle.bookings.proofs.Formed.{Formed}
+use Rattle.bookings.proofs.Types.{mixed-trans}
 
--- ---- directions and types: equal is equal
+-- ---- two of the same direction as a third
 same-trans : (d e f : Direction) → sameDirection d e ≡ true → sameDirection e f ≡ true → sameDirection d f ≡ true
 unfolding sameDirection isDown
 same-trans Up Up f p q = q
 same-trans Down Down f p q = q
 same-trans Up Down f p q = true-false (sym p)
 same-trans Down Up f p q = true-false (sym p)
-
-mixed-trans : (t u v : ℕ) → mixed t u ≡ false → mixed u v ≡ false → mixed t v ≡ false
-unfolding mixed
-mixed-trans t u v p q =
-    let e = eqb-true t u (not-false (eqb t u) p) in
-    let f = eqb-true u v (not-false (eqb u v) q) in
-    ap not (eq-eqb t v (e ∙ f))
 
 -- ---- two bookings of one timeslot that do not clash
 record Apart (x y : Booking) : Type 0 where

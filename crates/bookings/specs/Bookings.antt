@@ -1,6 +1,6 @@
--- Document 01, "The class book" and "Beacon timeslots": what one booking must meet, what it covers, and when two of a seat clash.
+-- Document 01, "The class book" and "Beacon timeslots": what one booking must meet, what it covers, and when two of a seat clash; of their types document 02.
 -- Cited by the crates seats and classbook. Assumes nothing.
-use mathlib.Core.Bool.{Bool, not, _&&_, _||_}
+use mathlib.Core.Bool.{Bool, not, xor, _&&_, _||_}
 use mathlib.Core.List.{[], _∷_}
 use Prim.Native.Nat.{ℕ, _+_, _-_, _*_, _/_}
 use lib.Dec.{eqb, ltb}
@@ -36,11 +36,11 @@ unfoldable pub sameDirection : Direction → Direction → Bool
 sameDirection Up d = not (isDown d)
 sameDirection Down d = isDown d
 
--- "burst types are not mixed in one timeslot"
+-- document 02: "of two bookings in a timeslot, the types clash if exactly one of them is type 2"
 unfoldable pub mixed : ℕ → ℕ → Bool
-mixed t u = not (eqb t u)
+mixed t u = xor (eqb t 2) (eqb u 2)
 
--- "Two bookings of one seat clash if their timeslots are equal and their directions differ, or their burst types differ .., or their codes overlap."
+-- "Two bookings of one seat clash if their timeslots are equal and their directions differ, or their burst types" clash, "or their codes overlap."
 unfoldable pub clash : Booking → Booking → Bool
 clash x y =
     eqb (x .timeslot) (y .timeslot)

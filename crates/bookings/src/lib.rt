@@ -6,7 +6,7 @@ ghost use lib.Dec.{eqb, ltb};
 ghost use Rattle.refusals.specs.Refusals.{firstOf};
 ghost use Rattle.conditions.specs.Conditions.{badBookedUser, badTimeslot, badCode};
 ghost use Rattle.tables.specs.Tables.{formRefusals};
-ghost use Rattle.bookings.specs.Bookings.{formOf, leavesOf, leaf, sameDirection, clash, comes, fine, breaksBeacon};
+ghost use Rattle.bookings.specs.Bookings.{formOf, leavesOf, leaf, sameDirection, mixed, clash, comes, fine, breaksBeacon};
 use conditions::Direction;
 
 // A booking of a seat. Its numbers were tested when it was booked, so they are kept in a byte each.
@@ -94,6 +94,13 @@ fn share_leaf(a: u32, m: u32, b: u32, n: u32) -> bool
     (a < b + n) & (b < a + m)
 }
 
+// Whether types clash in one timeslot: exactly one of them is type 2.
+fn mixed_types(t: u8, u: u8) -> bool
+    ensures { λ r. ⌜ r ≡ mixed t u ⌝ }
+{
+    (t == 2) ^ (u == 2)
+}
+
 // Whether two bookings clash whose codes cover m leaves from a, and n leaves from b.
 fn clash_over(x: Booking, y: Booking, a: u32, m: u32, b: u32, n: u32) -> bool
     requires { ⌜ (a ≡ leaf x) × (m ≡ leavesOf (x .factor)) × (b ≡ leaf y) × (n ≡ leavesOf (y .factor)) × (a ≤ 4080) × (m ≤ 16) × (b ≤ 4080) × (n ≤ 16) ⌝ }
@@ -105,8 +112,9 @@ fn clash_over(x: Booking, y: Booking, a: u32, m: u32, b: u32, n: u32) -> bool
     let dx = x.direction;
     let dy = y.direction;
     let same = same_direction(dx, dy);
+    let mix = mixed_types(x.burst, y.burst);
     let over = share_leaf(a, m, b, n);
-    !same | (!(x.burst == y.burst) | over)
+    !same | (mix | over)
 }
 
 // Whether two bookings of one seat clash.

@@ -7,3 +7,4 @@ pub mod Room
 pub mod Lists
 pub mod Codes
 pub mod Clashes
+pub mod OldSentence

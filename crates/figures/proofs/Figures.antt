@@ -1,6 +1,7 @@
 -- Document 01: "The starred figures are proved as rows of a single table of the definitions with one claim." The table is specs/Figures.antt; this is the claim, by computation.
 -- Assumes nothing.
 use mathlib.Core.Path.{_≡_, refl}
+use mathlib.Core.Bool.{xor}
 use mathlib.Core.List.{map}
 use Rattle.laws.specs.Runs.{run}
 use Rattle.laws.specs.Lists.{member, every, pairs, total}
@@ -36,7 +37,7 @@ unfolding figures opening firstBooking secondBooking run member every pairs tota
     fields fieldLength order controlChips chipsOfBits bitsOfChips tfciHalf tpcChips spans partLength partLengths sevenParts partsRefusals partsAnswer
     carryingOf halfOf placeOf badPich pichRefusals badFrames badNumber indicatorRefusals indicatorAnswer
     beaconsOf badBeacon isBeacon beaconRefusals beaconAnswer
-    badBookedUser badTimeslot badCode formRefusals formOf leavesOf firstLeaf overlaps sameDirection mixed clash comes fine beaconRules breaksBeacon
+    badBookedUser badTimeslot badCode formRefusals formOf leavesOf firstLeaf overlaps sameDirection mixed xor clash comes fine beaconRules breaksBeacon
     isBlank closed settingsRefusals goodSettings aboveCount offBeacon stands clashesWith isBare seatOk rank insert withPlan
     emptyBook seatOf withSeat common bookOk
     badBook badSeat notOpen isOpen seatFull roomUsedUp longCount shortCount openRefusals openSeat openAnswer

@@ -1,6 +1,7 @@
 -- The two lessons of specs/Limits.antt, computed turn by turn from the definitions that the
 -- promises cite. Cited by Reached. Assumes nothing.
 use mathlib.Core.Path.{_≡_, refl}
+use mathlib.Core.Bool.{xor}
 use Rattle.laws.specs.Lists.{member, every, pairs, total}
 use Rattle.refusals.specs.Refusals.{firstOf, after}
 use Rattle.conditions.specs.Conditions.{badType, badCell, badCount, isDown, badFactor}
@@ -29,7 +30,7 @@ pub computed :
 unfolding member every pairs total firstOf after
     badType badCell badCount isDown badFactor badDownFactor badDownType badControl badBeacon
     badBookedUser badTimeslot badCode formRefusals settingsRefusals beaconsOf isBeacon
-    formOf leavesOf firstLeaf overlaps sameDirection mixed clash comes fine beaconRules breaksBeacon
+    formOf leavesOf firstLeaf overlaps sameDirection mixed xor clash comes fine beaconRules breaksBeacon
     aboveCount clashesWith offBeacon isBlank closed goodSettings stands isBare seatOk
     rank insert withPlan emptyBook seatOf withSeat planOf common bookOk
     badBook badSeat notOpen isOpen seatFull roomUsedUp

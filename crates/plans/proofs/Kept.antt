@@ -21,10 +21,11 @@ use Rattle.conditions.specs.Conditions.{isDown}
 use Rattle.tables.specs.Tables.{settingsRefusals}
 use Rattle.bookings.specs.declared.Booking.{Booking}
 use Rattle.seats.specs.declared.Seat.{Seat}
-use Rattle.bookings.specs.Bookings.{leavesOf, leaf, overlaps, sameDirection, mixed, clash, key, comes, fine}
+use Rattle.bookings.specs.Bookings.{leavesOf, leaf, overlaps, sameDirection, clash, key, comes, fine}
 use Rattle.seats.specs.Conditions.{clashesWith}
 use Rattle.seats.specs.Seats.{blank, isBlank, isBare, closed, held, bookings, goodSettings, standsIn, seatOk, rank, insert, withPlan, opened}
 use Rattle.bookings.proofs.Formed.{Formed}
+use Rattle.bookings.proofs.Types.{mixed-turn}
 use Rattle.seats.proofs.Tested.{stands-formed}
 use Rattle.plans.proofs.Plans.{sound, open-good, with-plan-ok, plan-length}
 
@@ -41,12 +42,12 @@ direction-turn Down Up = refl
 direction-turn Down Down = refl
 
 clash-turn : (x y : Booking) → clash x y ≡ clash y x
-unfolding clash overlaps mixed
+unfolding clash overlaps
 clash-turn x y =
     rw (
       eqb-turn (x .timeslot) (y .timeslot),
       direction-turn (x .direction) (y .direction),
-      eqb-turn (x .burst) (y .burst),
+      mixed-turn (x .burst) (y .burst),
       and-comm (ltb (leaf x) (leaf y + leavesOf (y .factor))) (ltb (leaf y) (leaf x + leavesOf (x .factor))),
     )
 

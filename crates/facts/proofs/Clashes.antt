@@ -1,6 +1,6 @@
 -- Document 01, "The class book": when two bookings of one seat clash, with each ground as it is
--- meant (of their types document 02), and 17, "clash inside this seat's own cell". No function's proof cites it: it is for the
--- reader. Assumes nothing.
+-- meant (which types clash is document 02's), and 17, "clash inside this seat's own cell". No
+-- function's proof cites it: it is for the reader. Assumes nothing.
 use mathlib.Core.Path.{_≡_, refl, sym, ap, _∙_}
 use mathlib.Core.Bool.{Bool, true, false, not, xor, _||_}
 use mathlib.Core.List.{List, [], _∷_, map}

@@ -99,7 +99,7 @@ mod plain {
         Request {
             timeslot: a / 64 % 16,
             direction: if b / 16 % 3 == 0 { Direction::Down } else { Direction::Up },
-            burst: 1 + b / 256 % 17 / 14,
+            burst: 1 + b / 256 % 17 / 14 + b / 256 % 17 / 16,
             factor: if f % 8 == 0 {
                 1
             } else if f % 8 == 1 {

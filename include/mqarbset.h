@@ -1,8 +1,8 @@
 /* mqarbset: midambles, timeslot parts, beacon timeslots, paging bits and the class book of the 3.84 Mcps option of 3GPP TS 25.221.
  *
  * Every call here is proved against its definition (crates/mqarbset): for all numbers, all bytes and all lengths of lent memory it answers as
- * document 01 says, or refuses with document 01's number, and a refused call leaves the book and all lent memory as they were. The few lines
- * of C in this header, the functions marked `static inline`, are not part of the proof.
+ * document 01 says, mended by document 02, or refuses with document 01's number, and a refused call leaves the book and all lent memory as they
+ * were. The few lines of C in this header, the functions marked `static inline`, are not part of the proof.
  *
  * Numbers are uint32_t, and any value may be handed in. A refusal is one of enum mq_refusal; 0 is none. If several apply, the lowest is given,
  * and every other number of the answer is 0.

@@ -1,5 +1,5 @@
 -- Being of type 2 or not parts the types in two: of one part's types no two clash. So not to clash by type is an equivalence, which is why neighbours are enough.
--- Cited by Order, and by the crate plans. Assumes nothing.
+-- Cited by Order, and by the crates plans and facts. Assumes nothing.
 use mathlib.Core.Path.{_≡_, refl}
 use mathlib.Core.Bool.{Bool, true, false, xor}
 use Prim.Native.Nat.{ℕ}

@@ -1,7 +1,7 @@
 -- Before document 02 the class book kept the sentence of source 000, "burst types are not mixed in
 -- one timeslot": types clashed where they differed. What clashes by document 02 clashed by that
--- sentence, so a book that met its conditions then still meets them. The old sentence stands here
--- and nowhere else. No function's proof cites it: it is for the reader. Assumes nothing.
+-- sentence, so a book that met its conditions then still meets them. No other definition or proof
+-- has the old sentence. No function's proof cites it: it is for the reader. Assumes nothing.
 use mathlib.Core.Path.{_≡_, refl, sym, ap, _∙_}
 use mathlib.Core.Logic.{⊎-elim}
 use mathlib.Core.Bool.{Bool, true, false, not, xor, _&&_, _||_, or-true}

@@ -1,1 +1,1 @@
-// No code: this crate holds sentences of document 01 that no single promise says outright, a chapter to a file (proofs/).
+// No code: this crate holds sentences of documents 01 and 02 that no single promise says outright (proofs/).

@@ -120,7 +120,7 @@ fn thrown(x: u32) -> Request {
     Request {
         timeslot: a / 64 % 16,
         direction,
-        burst: 1 + b / 256 % 17 / 14,
+        burst: 1 + b / 256 % 17 / 14 + b / 256 % 17 / 16,
         factor,
         index: 1 + c / 256 % 16,
         user: 1 + a / 1024 % 17,

@@ -1,42 +1,42 @@
--- Being of type 2 or not parts the types in two: of one part's types no two clash. So not to clash by type is an equivalence, which is why neighbours are enough.
--- Cited by Order, and by the crates plans and facts. Assumes nothing.
-use mathlib.Core.Path.{_≡_, refl}
+-- Being type 2 or not parts the types in two, and types do not clash where they are of one part. So not to clash by type is an equivalence, which is why neighbours
+-- are enough. Cited by Order, and by the crates plans and facts. Assumes nothing.
+use mathlib.Core.Path.{_≡_, refl, sym, _∙_}
+use mathlib.Core.Logic.{_↔_}
 use mathlib.Core.Bool.{Bool, true, false, xor}
 use Prim.Native.Nat.{ℕ}
 use lib.Dec.{eqb}
 use Rattle.laws.proofs.Bools.{true-false}
 use Rattle.bookings.specs.Bookings.{mixed}
 
-xor-self : (a : Bool) → xor a a ≡ false
+not-one : (a b : Bool) → (xor a b ≡ false) ↔ (a ≡ b)
 unfolding xor
-xor-self true = refl
-xor-self false = refl
+not-one true true = (λ e. refl, λ e. refl)
+not-one false false = (λ e. refl, λ e. refl)
+not-one true false = (λ e. true-false e, λ e. true-false e)
+not-one false true = (λ e. true-false e, λ e. true-false (sym e))
 
-xor-turn : (a b : Bool) → xor a b ≡ xor b a
-unfolding xor
-xor-turn true true = refl
-xor-turn true false = refl
-xor-turn false true = refl
-xor-turn false false = refl
-
-xor-trans : (a b c : Bool) → xor a b ≡ false → xor b c ≡ false → xor a c ≡ false
-unfolding xor
-xor-trans true true c p q = q
-xor-trans false false c p q = q
-xor-trans true false c p q = true-false p
-xor-trans false true c p q = true-false p
+-- types do not clash exactly where both are type 2, or neither is: the others follow from this
+pub alike : (t u : ℕ) → (mixed t u ≡ false) ↔ (eqb t 2 ≡ eqb u 2)
+unfolding mixed
+alike t u = not-one (eqb t 2) (eqb u 2)
 
 -- a type does not clash with itself
 pub mixed-self : (t : ℕ) → mixed t t ≡ false
-unfolding mixed
-mixed-self t = xor-self (eqb t 2)
-
--- two clash whichever is named first
-pub mixed-turn : (t u : ℕ) → mixed t u ≡ mixed u t
-unfolding mixed
-mixed-turn t u = xor-turn (eqb t 2) (eqb u 2)
+mixed-self t = alike t t .1 refl
 
 -- and what does not clash with a third between them does not clash
 pub mixed-trans : (t u v : ℕ) → mixed t u ≡ false → mixed u v ≡ false → mixed t v ≡ false
-unfolding mixed
-mixed-trans t u v = xor-trans (eqb t 2) (eqb u 2) (eqb v 2)
+mixed-trans t u v p q = alike t v .1 (alike t u .0 p ∙ alike u v .0 q)
+
+-- two clash whichever is named first
+turned : (t u : ℕ) → mixed t u ≡ false → mixed u t ≡ false
+turned t u p = alike u t .1 (sym (alike t u .0 p))
+
+false-together : (a b : Bool) → (a ≡ false → b ≡ false) → (b ≡ false → a ≡ false) → a ≡ b
+false-together true true f g = refl
+false-together false false f g = refl
+false-together true false f g = g refl
+false-together false true f g = sym (f refl)
+
+pub mixed-turn : (t u : ℕ) → mixed t u ≡ mixed u t
+mixed-turn t u = false-together (mixed t u) (mixed u t) (turned t u) (turned u t)

@@ -1,6 +1,6 @@
 //! `second every`: one lesson of every question that docs/COMPARISON.md lists, for both programs to answer. It only
-//! asks: no answer stands here. Written by an author of the library, the rest of this program by somebody who had not
-//! seen it.
+//! asks: no answer stands here. Written by an author of the library, but for the signal card's questions; these and the
+//! rest of this program by people who had not seen it.
 
 use crate::midambles::family;
 use crate::paging;
@@ -18,6 +18,8 @@ pub fn print(out: &mut dyn Write) -> io::Result<()> {
     let put: Put = &mut |line| writeln!(out, "{line}");
     midambles(put)?;
     chips(put)?;
+    pairs_of_chips(put)?;
+    pairs_of_midambles(put)?;
     timeslots(put)?;
     beacons(put)?;
     indicators(put)?;
@@ -63,6 +65,89 @@ fn chips(put: Put) -> io::Result<()> {
                         put(format!("chip {cell} {burst_type} {count} {user} {i}"))?;
                     }
                 }
+            }
+        }
+    }
+    Ok(())
+}
+
+/// Levels on both sides of the rule.
+const LEVELS: [u32; 6] = [0, 1, 2046, 2047, 2048, LARGEST];
+
+/// One chip as a pair: every chip of one user of each type, and the chips just outside; every level of some chips, and
+/// the levels just outside; each number that the question may have wrong, by itself and with others. Where the cell is
+/// wrong, fewer numbers stand for all.
+fn pairs_of_chips(put: Put) -> io::Result<()> {
+    for (user, length, level) in
+        [("0 1 16 8", 512, 1), ("5 2 6 4", 256, 2047), ("127 3 8 1", 512, 1000)]
+    {
+        for i in (0..=length + 1).chain([LARGEST]) {
+            put(format!("pair {user} {i} {level}"))?;
+        }
+    }
+    // By document 01's figures the four long chips are all four powers of j.
+    for chip in ["0 1 16 8 1", "0 1 16 8 2", "0 3 16 8 4", "0 3 16 8 453", "5 2 6 4 1"] {
+        for level in 0..=2049 {
+            put(format!("pair {chip} {level}"))?;
+        }
+    }
+    for burst_type in [0, 1, 2, 3, 4, LARGEST] {
+        for count in [0, 3, 6, 7, 8, 9, 16, LARGEST] {
+            for user in [0, 1, 3, 4, 6, 7, 8, 9, 16, 17, LARGEST] {
+                for i in [0, 1, 256, 257, 512, 513, LARGEST] {
+                    for level in LEVELS {
+                        put(format!("pair 127 {burst_type} {count} {user} {i} {level}"))?;
+                    }
+                }
+            }
+        }
+    }
+    for cell in [128, LARGEST] {
+        for burst_type in [0, 1, 2, 4] {
+            for count in [0, 3, 8] {
+                for user in [0, 1, 9] {
+                    for i in [0, 1, 513] {
+                        for level in LEVELS {
+                            put(format!("pair {cell} {burst_type} {count} {user} {i} {level}"))?;
+                        }
+                    }
+                }
+            }
+        }
+    }
+    Ok(())
+}
+
+/// A whole midamble as pairs: every type, count and user of the first and the last cell at the lowest and the highest
+/// level; every cell for one user of each type, each at a level of its own; each number that the question may have
+/// wrong, by itself and together with the level.
+fn pairs_of_midambles(put: Put) -> io::Result<()> {
+    for cell in [0, 127] {
+        for burst_type in 1..=3 {
+            for count in family(burst_type).counts {
+                for user in 1..=count {
+                    for level in [1, 2047] {
+                        put(format!("pairs {cell} {burst_type} {count} {user} {level}"))?;
+                    }
+                }
+            }
+        }
+    }
+    for cell in 0..=127 {
+        for user in ["1 16 8", "2 6 4", "3 8 1"] {
+            put(format!("pairs {cell} {user} {}", 1 + 16 * cell))?;
+        }
+    }
+    for (burst_type, count) in [(1, 16), (2, 6), (3, 8)] {
+        let counts = [0, 3, 4, 6, 7, 8, 9, 16, 17, LARGEST];
+        let mut questions = vec![[127, burst_type, count, count]];
+        questions.extend([128, LARGEST].map(|cell| [cell, burst_type, count, count]));
+        questions.extend([0, 4, LARGEST].map(|burst_type| [127, burst_type, count, count]));
+        questions.extend(counts.map(|count| [127, burst_type, count, 1]));
+        questions.extend([0, count + 1, LARGEST].map(|user| [127, burst_type, count, user]));
+        for [cell, burst_type, count, user] in questions {
+            for level in LEVELS {
+                put(format!("pairs {cell} {burst_type} {count} {user} {level}"))?;
             }
         }
     }

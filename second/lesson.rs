@@ -7,6 +7,7 @@ use crate::midambles::{one_chip, whole_midamble};
 use crate::paging::{self, indicator, owner, owner_words, place_words};
 use crate::refusals::{condition, Answer};
 use crate::rows::Rows;
+use crate::signal_card::{self, all_pairs, one_pair};
 use crate::timeslots::{at, label_words, parts_words, timeslot, Direction, Question};
 use std::io::{self, BufRead, Read, Write};
 
@@ -114,6 +115,8 @@ impl Bench<'_> {
             "list" => self.list(call),
             "chip" => self.chip(call),
             "midamble" => self.midamble(call),
+            "pair" => self.pair(call),
+            "pairs" => self.pairs(call),
             "parts" => parts(call),
             "at" => what_lies_at(call),
             "beacon" => beacon(call),
@@ -180,6 +183,19 @@ impl Bench<'_> {
         let mut lent = [0; LONGEST_MIDAMBLE];
         let written = whole_midamble(self.rows, cell, burst_type, count, user, &mut lent)?;
         Ok(format!("midamble {}", digit_words(&lent[..written])))
+    }
+
+    fn pair(&self, call: &Call) -> Answer<String> {
+        let [cell, burst_type, count, user, i, level] = call.numbers();
+        let (real, imaginary) = one_pair(self.rows, cell, burst_type, count, user, i, level)?;
+        Ok(format!("pair {}", signal_card::words(&[real, imaginary])))
+    }
+
+    fn pairs(&self, call: &Call) -> Answer<String> {
+        let [cell, burst_type, count, user, level] = call.numbers();
+        let mut lent = [f32::NAN; 2 * LONGEST_MIDAMBLE];
+        let written = all_pairs(self.rows, cell, burst_type, count, user, level, &mut lent)?;
+        Ok(format!("pairs {}", signal_card::words(&lent[..written])))
     }
 }
 

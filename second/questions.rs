@@ -1,14 +1,16 @@
 //! Random calls beside the class book's, for random lessons: each word is within the rules, but that some words of page
-//! and read are too short or too long.
+//! and read are too short or too long, and that a few levels of pair and pairs lie just outside, at 0 and 2048.
 
 use crate::dice::Dice;
 
-/// A random call of chip, midamble, parts, at, beacon, indicator, page, read, owner. There is no `help` in it: the two
-/// programs need not agree on its reply.
+/// A random call of chip, midamble, pair, pairs, parts, at, beacon, indicator, page, read, owner. There is no `help` in
+/// it: the two programs need not agree on its reply.
 pub fn question(dice: &mut Dice) -> String {
     let ask = dice.pick_by_weight(&[
         (2, chip as fn(&mut Dice) -> String),
         (1, midamble),
+        (2, pair),
+        (1, pairs),
         (2, parts),
         (4, at),
         (2, beacon),
@@ -37,6 +39,26 @@ fn chip(dice: &mut Dice) -> String {
 
 fn midamble(dice: &mut Dice) -> String {
     format!("midamble {}", user_of_a_cell(dice).0)
+}
+
+/// A level: mostly any within the rules, now and then the lowest or the highest, or one just outside.
+fn level(dice: &mut Dice) -> u32 {
+    match dice.below(20) {
+        0 => dice.pick(&[0, 2048]),
+        1 => dice.pick(&[1, 2047]),
+        _ => dice.between(1, 2047),
+    }
+}
+
+fn pair(dice: &mut Dice) -> String {
+    let (user, length) = user_of_a_cell(dice);
+    let i = dice.between(1, length);
+    format!("pair {user} {i} {}", level(dice))
+}
+
+fn pairs(dice: &mut Dice) -> String {
+    let (user, _) = user_of_a_cell(dice);
+    format!("pairs {user} {}", level(dice))
 }
 
 /// TYPE up|down FACTOR TFCI TPC.

@@ -1,12 +1,12 @@
-//! Document 01, "Refusal numbers".
+//! Document 01, "Refusal numbers", with what document 02 adds to them: 22.
 //!
 //! A call tests its own conditions from the lowest number upwards, so the first one that holds is the lowest.
 
 /// What a call gives back: a value, or the number of the refusal.
 pub type Answer<T> = Result<T, u32>;
 
-/// The table's column "Condition", from number 1 on.
-const CONDITIONS: [&str; 21] = [
+/// The table's column "Condition", from number 1 on. Document 02 gives 22 no words; docs/LESSONS.md does.
+const CONDITIONS: [&str; 22] = [
     "cell parameter above 127",
     "burst type not 1, 2 or 3",
     "midamble count not 8 or 16 (types 1, 3), not 3 or 6 (type 2); in opening a seat 0 is allowed too",
@@ -28,9 +28,10 @@ const CONDITIONS: [&str; 21] = [
     "seat holds 40",
     "common room used up",
     "no such booking",
+    "level not 1 to 2047",
 ];
 
-/// The table's words for a refusal number.
+/// The words for a refusal number.
 pub fn condition(number: u32) -> &'static str {
     CONDITIONS[number as usize - 1]
 }

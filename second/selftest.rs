@@ -1,5 +1,5 @@
 //! Document 01, "Figures to check", and the few facts that the chapters state beside their rules; and the burst types
-//! of document 02.
+//! and the signal card of document 02.
 
 use crate::beacons::{beacon_timeslots, words};
 use crate::book::{Book, Record, Settings, MOST_OF_A_SEAT};
@@ -8,6 +8,7 @@ use crate::midambles::{family, least_shift, one_chip, shift};
 use crate::paging::{indicator, owner, owner_words, place_words};
 use crate::refusals::{in_words, Answer};
 use crate::rows::Rows;
+use crate::signal_card::{self, all_pairs, one_pair};
 use crate::timeslots::{timeslot, Direction, Part, Question, Timeslot, CHIPS};
 use std::collections::HashSet;
 use std::io::{self, Write};
@@ -41,6 +42,10 @@ fn figures(rows: &Rows) -> Vec<Figure> {
     let mut figures = Vec::new();
     figures.extend(row_figures(rows));
     figures.extend(midamble_figures(rows));
+    figures.extend(pair_figures(rows));
+    figures.extend(zero_figures(rows));
+    figures.extend(level_figures(rows));
+    figures.extend(lent_row_figures(rows));
     figures.extend(timeslot_figures());
     figures.extend(beacon_figures());
     figures.extend(paging_figures());
@@ -112,6 +117,241 @@ fn midamble_figures(rows: &Rows) -> Vec<Figure> {
         figure("user 9, count 8", chip(8, 9, 1), "refused 4"),
         figure("user 0, count 16", chip(16, 0, 1), "refused 4"),
         figure("user 16, count 16, is answered", one_chip(rows, 0, 1, 16, 16, 1).is_ok(), true),
+    ]
+}
+
+/// The bits of a number that is lent before a call: a NaN with a payload, which no call writes.
+const LENT: u32 = 0x7FC1_2345;
+
+/// So many lent numbers.
+fn lent_numbers(length: usize) -> Vec<f32> {
+    vec![f32::from_bits(LENT); length]
+}
+
+/// How many of the numbers are as they were lent, to the bit.
+fn untouched(numbers: &[f32]) -> usize {
+    numbers.iter().filter(|number| number.to_bits() == LENT).count()
+}
+
+/// The bits of the numbers, eight hexadecimal digits each.
+fn bit_words(numbers: &[f32]) -> String {
+    let words = numbers.iter().map(|number| format!("{:08X}", number.to_bits()));
+    words.collect::<Vec<String>>().join(" ")
+}
+
+/// The row of pairs of a user; nothing where it is refused.
+fn row_of_pairs(
+    rows: &Rows,
+    cell: u32,
+    [burst_type, count, user]: [u32; 3],
+    level: u32,
+) -> Vec<f32> {
+    let mut lent = lent_numbers(1024);
+    let written = all_pairs(rows, cell, burst_type, count, user, level, &mut lent).unwrap_or(0);
+    lent[..written].to_vec()
+}
+
+/// Document 02: "Powers 0, 1, 2, 3 are (a, 0), (0, a), (-a, 0), (0, -a)". The chips are document 01's, cell 0.
+///
+/// Its figures have the powers of user 8's chips 1 to 8 and 453 to 460. User 16 is shifted by 427, so its chips 30 to
+/// 37 are elements 457 to 464, the first eight again. Digit 14 of the long row is 9, + - - +: elements 53 to 56, which
+/// are user 8's chips 509 to 512, have the powers 1, 54 + 2, 55 + 2 and 56 modulo 4, that is 1,0,1,0.
+///
+/// The short row begins 5D, - + - + + + - +: user 3, who is not shifted, begins with the powers 1 + 2, 2, 3 + 2, 4, 5,
+/// 6, 7 + 2 and 8 modulo 4, that is 3,2,1,0,1,2,1,0. User 6 is shifted by 160, so its chips 33 to 40 are elements 193
+/// to 200, the same. Digit 16 is F: elements 61 to 64, which are user 3's chips 253 to 256, are 1,2,3,0.
+fn pair_figures(rows: &Rows) -> Vec<Figure> {
+    let one_by_one = |[burst_type, count, user]: [u32; 3], first, last, level| {
+        let pair = |i| {
+            let pair = one_pair(rows, 0, burst_type, count, user, i, level);
+            in_words(pair, |(real, imaginary)| signal_card::words(&[real, imaginary]))
+        };
+        (first..=last).map(pair).collect::<Vec<String>>().join(" ")
+    };
+    let in_a_row = |user, first, last, level| {
+        let row = row_of_pairs(rows, 0, user, level);
+        row.get(2 * (first as usize - 1)..2 * last as usize)
+            .map_or("no such row".to_string(), signal_card::words)
+    };
+    let mut figures = vec![
+        figure("row 0 long, digit 14", &rows.long[0][13..14], "9"),
+        figure("row 0 short begins", &rows.short[0][..2], "5D"),
+        figure("row 0 short, digit 16", &rows.short[0][15..16], "F"),
+    ];
+    for (user, first, last, level, wanted) in [
+        ([1, 16, 8], 1, 8, 5, "0 5 5 0 0 5 -5 0 0 5 -5 0 0 5 5 0"),
+        ([1, 16, 8], 453, 460, 7, "0 -7 -7 0 0 7 -7 0 0 7 7 0 0 7 -7 0"),
+        ([1, 16, 8], 509, 512, 3, "0 3 3 0 0 3 3 0"),
+        ([1, 8, 8], 1, 2, 12, "0 12 12 0"),
+        ([3, 16, 16], 30, 37, 40, "0 40 40 0 0 40 -40 0 0 40 -40 0 0 40 40 0"),
+        ([2, 3, 3], 1, 8, 9, "0 -9 -9 0 0 9 9 0 0 9 -9 0 0 9 9 0"),
+        ([2, 6, 6], 33, 40, 2000, "0 -2000 -2000 0 0 2000 2000 0 0 2000 -2000 0 0 2000 2000 0"),
+        ([2, 6, 3], 253, 256, 1024, "0 1024 -1024 0 0 -1024 1024 0"),
+        ([1, 16, 8], 2, 2, 1, "1 0"),
+        ([1, 16, 8], 1, 1, 1, "0 1"),
+        ([1, 16, 8], 4, 4, 1, "-1 0"),
+        ([1, 16, 8], 453, 453, 1, "0 -1"),
+        ([1, 16, 8], 2, 2, 2047, "2047 0"),
+        ([1, 16, 8], 1, 1, 2047, "0 2047"),
+        ([1, 16, 8], 4, 4, 2047, "-2047 0"),
+        ([1, 16, 8], 453, 453, 2047, "0 -2047"),
+    ] {
+        let [burst_type, count, number] = user;
+        let name = format!(
+            "type {burst_type}, user {number} of {count}, chips {first} to {last} at level {level}"
+        );
+        let pairs = one_by_one(user, first, last, level);
+        figures.push(figure(&format!("{name}, one by one"), pairs, wanted));
+        let pairs = in_a_row(user, first, last, level);
+        figures.push(figure(&format!("{name}, in the row"), pairs, wanted));
+    }
+    figures
+}
+
+/// Document 02: "with plain zero and not minus zero", and "nothing is rounded". By bits: a float is a sign, 8 bits of
+/// exponent plus 127, and 23 bits behind the point. Plain zero is no bit at all, minus zero its sign alone. 1 has the
+/// exponent 0: 3F800000. 2047 is eleven ones, so the exponent is 10, 137 in place of 127, and ten ones stand behind the
+/// point: 44FFE000. The sign adds 80000000.
+///
+/// Each chip has one zero, so 128 long and 128 short midambles have 128 * 512 + 128 * 256 of them.
+fn zero_figures(rows: &Rows) -> Vec<Figure> {
+    let bits = |i, level| {
+        let pair = one_pair(rows, 0, 1, 16, 8, i, level);
+        in_words(pair, |(real, imaginary)| bit_words(&[real, imaginary]))
+    };
+    let all_powers = |level| [2, 1, 4, 453].map(|i| bits(i, level)).join(", ");
+    let mut all_numbers = Vec::new();
+    for cell in 0..=127 {
+        all_numbers.extend(row_of_pairs(rows, cell, [1, 16, 9], 2047));
+        all_numbers.extend(row_of_pairs(rows, cell, [2, 6, 5], 1));
+    }
+    let of_bits = |bits| all_numbers.iter().filter(|number| number.to_bits() == bits).count();
+    vec![
+        figure(
+            "powers 0 to 3 at level 1, by bits",
+            all_powers(1),
+            "3F800000 00000000, 00000000 3F800000, BF800000 00000000, 00000000 BF800000",
+        ),
+        figure(
+            "powers 0 to 3 at level 2047, by bits",
+            all_powers(2047),
+            "44FFE000 00000000, 00000000 44FFE000, C4FFE000 00000000, 00000000 C4FFE000",
+        ),
+        figure("numbers of a user of every cell, long and short", all_numbers.len(), 196608),
+        figure("plain zeros among them", of_bits(0), 98304),
+        figure("minus zeros among them", of_bits(0x8000_0000), 0),
+        figure("a minus zero, if there were one", signal_card::words(&[-0.0]), "-0"),
+    ]
+}
+
+/// Document 02: "The level a is a whole number from 1 to 2047", "22 for another level, last in order".
+fn level_figures(rows: &Rows) -> Vec<Figure> {
+    let answers = |answers: &[String]| answers.join(", ");
+    let one = |[cell, burst_type, count, user]: [u32; 4], i, level| {
+        let pair = one_pair(rows, cell, burst_type, count, user, i, level);
+        in_words(pair, |_| "answered".to_string())
+    };
+    let all = |[cell, burst_type, count, user]: [u32; 4], length, level| {
+        let mut lent = lent_numbers(length);
+        let written = all_pairs(rows, cell, burst_type, count, user, level, &mut lent);
+        in_words(written, |written| written.to_string())
+    };
+    let levels = [0, 1, 2047, 2048, u32::MAX];
+    let user_8 = [0, 1, 16, 8];
+    // A wrong cell, type, count and user, and all behind it wrong too.
+    let wrong = [[128, 4, 5, 17], [0, 4, 5, 17], [0, 1, 5, 17], [0, 1, 16, 17]];
+    vec![
+        figure(
+            "one pair at levels 0, 1, 2047, 2048, largest",
+            answers(&levels.map(|level| one(user_8, 512, level))),
+            "refused 22, answered, answered, refused 22, refused 22",
+        ),
+        figure(
+            "a row of pairs at levels 0, 1, 2047, 2048, largest",
+            answers(&levels.map(|level| all(user_8, 1024, level))),
+            "refused 22, 1024, 1024, refused 22, refused 22",
+        ),
+        figure(
+            "a short row of pairs at levels 0, 1, 2047, 2048, largest",
+            answers(&levels.map(|level| all([0, 2, 6, 6], 512, level))),
+            "refused 22, 512, 512, refused 22, refused 22",
+        ),
+        figure(
+            "one pair at level 0 with chip 513 and a wrong cell, type, count, user",
+            answers(&wrong.map(|numbers| one(numbers, 513, 0))),
+            "refused 1, refused 2, refused 3, refused 4",
+        ),
+        figure(
+            "one pair at level 2048 with user 0, with chip 0, with chip 513",
+            answers(&[one([0, 1, 16, 0], 1, 2048), one(user_8, 0, 2048), one(user_8, 513, 2048)]),
+            "refused 4, refused 10, refused 10",
+        ),
+        figure(
+            "a row of pairs at level 0 in no memory with a wrong cell, type, count, user",
+            answers(&wrong.map(|numbers| all(numbers, 0, 0))),
+            "refused 1, refused 2, refused 3, refused 4",
+        ),
+        figure(
+            "a row of pairs at level 2048 with user 0, in 1023 numbers, a short one in 511",
+            answers(&[
+                all([0, 1, 16, 0], 1024, 2048),
+                all(user_8, 1023, 2048),
+                all([0, 2, 6, 6], 511, 2048),
+            ]),
+            "refused 4, refused 11, refused 11",
+        ),
+    ]
+}
+
+/// Document 01: "lent memory, read or written, shorter than the call needs"; a refusal "leaves all lent memory and the
+/// book unchanged"; "memory longer than needed: only the named first places are read or written".
+fn lent_row_figures(rows: &Rows) -> Vec<Figure> {
+    // User 1 of the type at a level, in so many lent numbers and then a NaN with another payload, a minus zero and a
+    // negative NaN: the answer, how many of the lent numbers are untouched, and the bits of the last three.
+    let lent = |burst_type, count, level, length| {
+        let mut memory = lent_numbers(length);
+        memory.extend([0x7FC5_4321, 0x8000_0000, 0xFFC0_0001].map(f32::from_bits));
+        let written = all_pairs(rows, 0, burst_type, count, 1, level, &mut memory);
+        let written = in_words(written, |written| written.to_string());
+        let behind = bit_words(&memory[length..]);
+        format!("{written}, {}, {behind}", untouched(&memory))
+    };
+    vec![
+        figure(
+            "a row in 1027 numbers",
+            lent(1, 16, 2047, 1024),
+            "1024, 0, 7FC54321 80000000 FFC00001",
+        ),
+        figure(
+            "a short row in 515 numbers",
+            lent(2, 3, 1, 512),
+            "512, 0, 7FC54321 80000000 FFC00001",
+        ),
+        figure(
+            "a row in 1023 numbers",
+            lent(3, 8, 2047, 1020),
+            "refused 11, 1020, 7FC54321 80000000 FFC00001",
+        ),
+        figure(
+            "a short row in 511 numbers",
+            lent(2, 6, 1, 508),
+            "refused 11, 508, 7FC54321 80000000 FFC00001",
+        ),
+        figure(
+            "a row at level 0 in 1024 numbers",
+            lent(1, 8, 0, 1021),
+            "refused 22, 1021, 7FC54321 80000000 FFC00001",
+        ),
+        figure(
+            "a short row at level 2048 in 512 numbers",
+            lent(2, 6, 2048, 509),
+            "refused 22, 509, 7FC54321 80000000 FFC00001",
+        ),
+        figure(
+            "a row with count 0 in 1027 numbers",
+            lent(1, 0, 5, 1024),
+            "refused 3, 1024, 7FC54321 80000000 FFC00001",
+        ),
     ]
 }
 

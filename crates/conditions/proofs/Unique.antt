@@ -16,6 +16,7 @@ use Rattle.conditions.proofs.bad_control.Reads as bad-control
 use Rattle.conditions.proofs.bad_beacon.Reads as bad-beacon
 use Rattle.conditions.proofs.bad_pich.Reads as bad-pich
 use Rattle.conditions.proofs.bad_frames.Reads as bad-frames
+use Rattle.conditions.proofs.bad_level.Reads as bad-level
 
 pub is-down-asks-nothing : (κs : _) (a : _) → is-down.Pre κs a
 is-down-asks-nothing κs a = tt
@@ -106,3 +107,9 @@ bad-frames-asks-nothing κs a = tt
 
 pub bad-frames-unique : (κs : _) (a : _) (r r' : _) (s s' : _) → bad-frames.Post κs a r s → bad-frames.Post κs a r' s' → r ≡ r'
 bad-frames-unique κs a r r' s s' p q = p ∙ sym q
+
+pub bad-level-asks-nothing : (κs : _) (a : _) → bad-level.Pre κs a
+bad-level-asks-nothing κs a = tt
+
+pub bad-level-unique : (κs : _) (a : _) (r r' : _) (s s' : _) → bad-level.Post κs a r s → bad-level.Post κs a r' s' → r ≡ r'
+bad-level-unique κs a r r' s s' p q = p ∙ sym q

@@ -1,15 +1,17 @@
 -- Document 01, "the lowest is given", "exactly when", and which numbers a call gives: of each
--- public call, for all that it can be given. No function's proof cites it: it is for the reader.
--- Assumes nothing.
+-- public call, document 02's too, for all that it can be given. No function's proof cites it: it is
+-- for the reader. Assumes nothing.
 use mathlib.Core.Path.{_≡_, refl}
 use mathlib.Core.Bool.{true}
 use mathlib.Core.List.{List, [], _∷_}
 use Prim.Native.Nat.{ℕ}
+use lib.Ieee.{Float}
 use Rattle.laws.specs.Lists.{chain}
 use Rattle.conditions.specs.declared.Direction.{Direction}
 use Rattle.tables.specs.Tables.{userRefusals, partsRefusals, pichRefusals}
 use Rattle.tables.specs.Tables.{formRefusals, settingsRefusals}
 use Rattle.midambles.specs.Calls.{chipRefusals, chipAnswer, midambleRefusals, midambleOutcome}
+use Rattle.signal_card.specs.Calls.{pairRefusals, pairAnswer, pairsRefusals, pairsOutcome}
 use Rattle.timeslots.specs.Calls.{atRefusals, partsAnswer, atAnswer}
 use Rattle.beacons.specs.Calls.{beaconRefusals, beaconAnswer}
 use Rattle.paging_bits.specs.Bits.{bitsIn, perFrame}
@@ -40,6 +42,21 @@ module _ (cell burst count user : ℕ) where
       (answerOf (midambleOutcome cell burst count user out))
   unfolding answerOf midambleOutcome midambleRefusals userRefusals numbersOf ascending chain
   midamble-exactly out = exactly _ (midambleRefusals cell burst count user out) _ refl refl
+
+-- ---- the signal card, document 02: "Refusals: 22 for another level, last in order"
+
+module _ (cell burst count user : ℕ) where
+  pub pair-exactly : (i a : ℕ)
+      → Exactly (1 ∷ 2 ∷ 3 ∷ 4 ∷ 10 ∷ 22 ∷ []) (pairRefusals cell burst count user i a)
+      (pairAnswer cell burst count user i a)
+  unfolding pairAnswer pairRefusals chipRefusals userRefusals numbersOf ascending chain
+  pair-exactly i a = exactly _ (pairRefusals cell burst count user i a) _ refl refl
+
+  pub pairs-exactly : (a : ℕ) (out : List Float)
+      → Exactly (1 ∷ 2 ∷ 3 ∷ 4 ∷ 11 ∷ 22 ∷ []) (pairsRefusals cell burst count user a out)
+      (answerOf (pairsOutcome cell burst count user a out))
+  unfolding answerOf pairsOutcome pairsRefusals userRefusals numbersOf ascending chain
+  pairs-exactly a out = exactly _ (pairsRefusals cell burst count user a out) _ refl refl
 
 -- ---- a timeslot: "2, 6 (factor and direction only), 7, 8, 10"
 

@@ -2,6 +2,7 @@ pub mod Orders
 pub mod Replies
 pub mod Calls
 pub mod Sequences
+pub mod SignalCard
 pub mod Fields
 pub mod Room
 pub mod Lists

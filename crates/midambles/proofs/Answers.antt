@@ -1,4 +1,4 @@
--- What each `return` of the two calls answers, over plain values. Cited by the proofs of midamble_chip and midamble.
+-- What each `return` of the two calls answers, over plain values. Cited by the proofs of midamble_chip and midamble, and by the crate signal_card.
 -- Assumes nothing.
 use mathlib.Core.Path.{_≡_, sym, ap, _∙_}
 use mathlib.Core.Bool.{false, _||_}
@@ -24,9 +24,13 @@ use Rattle.tables.specs.Tables.{userRefusals}
 use Rattle.midambles.specs.Calls.{chipRefusals, midambleRefusals, chipAnswer, midambleOutcome, saidChip, saidMidamble}
 use Rattle.midambles.proofs.Passed.{Passed, passed}
 
-user-numbered : (cell burst count user : ℕ) → T (numbered (userRefusals cell burst count user))
+pub user-numbered : (cell burst count user : ℕ) → T (numbered (userRefusals cell burst count user))
 unfolding userRefusals
 user-numbered cell burst count user = tt
+
+pub chip-numbered : (cell burst count user i : ℕ) → T (numbered (chipRefusals cell burst count user i))
+unfolding chipRefusals userRefusals
+chip-numbered cell burst count user i = tt
 
 -- elements read at the user's shift are the chips of the user
 module _ (burst cell user by : ℕ) (s : by ≡ shiftOf (codeOf burst) user) where
@@ -37,7 +41,7 @@ module _ (burst cell user by : ℕ) (s : by ≡ shiftOf (codeOf burst) user) whe
   unfolding chipOf
   chip-of i = ap (λ (k : ℕ). element (codeOf burst .period) (getD (rowsOf burst) cell []) (i + k)) s
 
-  chips-of : run at-place (codeOf burst .length) ≡ chipsOf cell burst user
+  pub chips-of : run at-place (codeOf burst .length) ≡ chipsOf cell burst user
   unfolding chipsOf
   chips-of = run-same _ _ (codeOf burst .length) (λ i h. chip-of i)
 

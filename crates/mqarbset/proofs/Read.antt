@@ -1,4 +1,4 @@
--- What a C caller reads off a struct is document 01's answer: nothing is lost on the way. Cited by no proof: it is for the reader of the promises.
+-- What a C caller reads off a struct is the answer of document 01 or 02: nothing is lost on the way. Cited by no proof: it is for the reader of the promises.
 -- Assumes nothing.
 use mathlib.Core.Path.{_≡_, refl, ap}
 use mathlib.Core.Bool.{Bool, true, false, cond}
@@ -6,8 +6,10 @@ use mathlib.Core.List.{List, [], _∷_}
 use Prim.Native.Nat.{ℕ, _+_, _-_}
 use lib.Dec.{eqb}
 use lib.ListN.{getD}
+use lib.Ieee.{Float}
 use Rattle.refusals.specs.Refusals.{Answer, refused, answered, answer, _leaving_}
 use Rattle.midambles.specs.Calls.{chipAnswer, midambleOutcome}
+use Rattle.signal_card.specs.Calls.{pairAnswer, pairsOutcome}
 use Rattle.timeslots.specs.Timeslots.{Part, DATA1, TFCI1, MIDAMBLE, TPC, TFCI2, DATA2, GUARD, order, partLengths, spans, sevenParts}
 use Rattle.beacons.specs.Beacons.{beaconsOf}
 use Rattle.beacons.specs.Calls.{beaconAnswer}
@@ -19,6 +21,7 @@ use Rattle.refusal_words.specs.Words.{putting, wordsOutcome}
 use Rattle.mqarbset_answers.specs.Answers.{answerAsC, outcomeAsC, answerInC}
 use Rattle.mqarbset_answers.specs.Slots.{partsAsC, partNumber, placeAsC, beaconsAsC, zipped, partsInC, placeInC, beaconsInC}
 use Rattle.mqarbset_answers.specs.Pages.{indicatorAsC, ownerAsC, indicatorInC, ownerInC}
+use Rattle.mqarbset_answers.specs.Pairs.{pairAsC, pairInC}
 use Rattle.mqarbset.specs.Calls.{partsAnswerOverC, atAnswerOverC}
 
 -- an answer that goes by a first refusal's number is read back if its value is
@@ -43,7 +46,7 @@ read-chip cell burst count user chip = read-answer _ _
 
 -- ---- a value, and lent memory
 
-pub read-leaving : (n v : ℕ) (m : List ℕ) → answerInC (outcomeAsC (answer n v leaving m) .0) leaving outcomeAsC (answer n v leaving m) .1 ≡ answer n v leaving m
+pub read-leaving : {M : Type 0} (n v : ℕ) (m : M) → answerInC (outcomeAsC (answer n v leaving m) .0) leaving outcomeAsC (answer n v leaving m) .1 ≡ answer n v leaving m
 unfolding outcomeAsC
 read-leaving n v m = ap (λ (a : Answer ℕ). a leaving m) (read-answer n v)
 
@@ -71,7 +74,16 @@ pub read-text : (number : ℕ) (out : List ℕ) → answerInC (outcomeAsC (words
 unfolding wordsOutcome putting
 read-text number out = read-leaving _ _ _
 
+pub read-pairs : (cell burst count user level : ℕ) (out : List Float)
+    → answerInC (outcomeAsC (pairsOutcome cell burst count user level out) .0) leaving outcomeAsC (pairsOutcome cell burst count user level out) .1 ≡ pairsOutcome cell burst count user level out
+unfolding pairsOutcome
+read-pairs cell burst count user level out = read-leaving _ _ _
+
 -- ---- the other structs
+
+pub read-pair : (cell burst count user chip level : ℕ) → pairInC (pairAsC (pairAnswer cell burst count user chip level)) ≡ pairAnswer cell burst count user chip level
+unfolding pairInC pairAsC pairAnswer
+read-pair cell burst count user chip level = back pairAsC pairInC (λ m e. simp e) _ _ (λ _. refl)
 
 pub read-parts : (burst direction factor tfci tpc : ℕ)
     → partsInC (partsAsC (partsAnswerOverC burst direction factor tfci tpc)) ≡ partsAnswerOverC burst direction factor tfci tpc

@@ -1,7 +1,6 @@
 -- A call's answer turned into the struct, over any call: `said` is what its answer says, `write` how that is written over C. Cited by the proofs of the exports.
 -- Assumes nothing.
 use mathlib.Core.Path.{_≡_, ap, _∙_}
-use mathlib.Core.List.{List}
 use Prim.Native.Nat.{ℕ}
 use Rattle.refusals.specs.Refusals.{Answer, Outcome, _leaving_}
 use Rattle.mqarbset_answers.specs.declared.MqAnswer.{MqAnswer}
@@ -12,8 +11,8 @@ pub turned : {A S : Type 0} (write : A → S) (s : S) (said a : A) → s ≡ wri
 turned write s said a made e = made ∙ ap write e
 
 -- `turned` where memory was lent
-pub turned-leaving : (s : MqAnswer) (said : Answer ℕ) (m : List ℕ) (o : Outcome ℕ (List ℕ)) → s ≡ answerAsC said → said leaving m ≡ o
-    → _≡_ {A = MqAnswer × List ℕ} (s, m) (outcomeAsC o)
+pub turned-leaving : {M : Type 0} (s : MqAnswer) (said : Answer ℕ) (m : M) (o : Outcome ℕ M) → s ≡ answerAsC said → said leaving m ≡ o
+    → _≡_ {A = MqAnswer × M} (s, m) (outcomeAsC o)
 unfolding outcomeAsC
 turned-leaving s said m o made e = ap (λ (x : MqAnswer). (x, m)) made ∙ ap outcomeAsC e
 

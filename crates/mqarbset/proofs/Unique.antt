@@ -1,8 +1,6 @@
 -- Each export asks nothing of its caller, and no second reply, book or memory satisfies its promise. `Pre` and `Post` are what Rattle reads of the
 -- function's own clauses, so a weakened promise fails here. Cited by no proof. Assumes nothing.
 use mathlib.Core.Path.{_≡_, sym, ap, _∙_}
-use mathlib.Core.List.{List}
-use Prim.Native.Nat.{ℕ}
 use denote.Ref.{now}
 use Rattle.mqarbset_answers.specs.declared.MqAnswer.{MqAnswer}
 use Rattle.mqarbset.proofs.mq_midamble_chip.Reads as chip
@@ -16,6 +14,8 @@ use Rattle.mqarbset.proofs.book.mq_open_value.Reads as opens
 use Rattle.mqarbset.proofs.book.mq_book_value.Reads as book
 use Rattle.mqarbset.proofs.book.mq_cancel_value.Reads as cancel
 use Rattle.mqarbset.proofs.book.mq_close_value.Reads as close
+use Rattle.mqarbset.proofs.pairs.mq_pair.Reads as pair
+use Rattle.mqarbset.proofs.pairs.mq_pairs.Reads as pairs
 use Rattle.mqarbset.proofs.slots.mq_parts.Reads as parts
 use Rattle.mqarbset.proofs.slots.mq_at.Reads as at
 use Rattle.mqarbset.proofs.slots.mq_beacon.Reads as beacon
@@ -25,10 +25,10 @@ use Rattle.mqarbset.proofs.version.mq_version.Reads as version
 use Rattle.mqarbset.proofs.version.mq_book_bytes.Reads as book-bytes
 
 -- a promise that is one equation leaves one reply, and one memory
-once : (o : MqAnswer × List ℕ) (r r' : MqAnswer) (m m' : List ℕ) → _≡_ {A = MqAnswer × List ℕ} (r, m) o → _≡_ {A = MqAnswer × List ℕ} (r', m') o → (r ≡ r') × (m ≡ m')
-once o r r' m m' p q =
+once : {M : Type 0} (o : MqAnswer × M) (r r' : MqAnswer) (m m' : M) → _≡_ {A = MqAnswer × M} (r, m) o → _≡_ {A = MqAnswer × M} (r', m') o → (r ≡ r') × (m ≡ m')
+once {M} o r r' m m' p q =
     let e = p ∙ sym q in
-    (ap (λ (x : MqAnswer × List ℕ). x .0) e, ap (λ (x : MqAnswer × List ℕ). x .1) e)
+    (ap (λ (x : MqAnswer × M). x .0) e, ap (λ (x : MqAnswer × M). x .1) e)
 
 -- ---- calls that lend no memory
 
@@ -49,6 +49,12 @@ mq-midamble-chip-total κs a = tt
 
 pub mq-midamble-chip-unique : (κs : _) (a : _) (r r' : _) (s s' : _) → chip.Post κs a r s → chip.Post κs a r' s' → r ≡ r'
 mq-midamble-chip-unique κs a r r' s s' p q = p ∙ sym q
+
+pub mq-pair-total : (κs : _) (a : _) → pair.Pre κs a
+mq-pair-total κs a = tt
+
+pub mq-pair-unique : (κs : _) (a : _) (r r' : _) (s s' : _) → pair.Post κs a r s → pair.Post κs a r' s' → r ≡ r'
+mq-pair-unique κs a r r' s s' p q = p ∙ sym q
 
 pub mq-empty-book-total : (κs : _) (a : _) → empty.Pre κs a
 mq-empty-book-total κs a = tt
@@ -117,6 +123,12 @@ mq-midamble-total κs a = tt
 
 pub mq-midamble-unique : (κs : _) (a : _) (r r' : _) (s s' : _) → midamble.Post κs a r s → midamble.Post κs a r' s' → (r ≡ r') × (now (s .1 .1 .1 .1 .0) ≡ now (s' .1 .1 .1 .1 .0))
 mq-midamble-unique κs a r r' s s' p q = once _ r r' _ _ p q
+
+pub mq-pairs-total : (κs : _) (a : _) → pairs.Pre κs a
+mq-pairs-total κs a = tt
+
+pub mq-pairs-unique : (κs : _) (a : _) (r r' : _) (s s' : _) → pairs.Post κs a r s → pairs.Post κs a r' s' → (r ≡ r') × (now (s .1 .1 .1 .1 .1 .0) ≡ now (s' .1 .1 .1 .1 .1 .0))
+mq-pairs-unique κs a r r' s s' p q = once _ r r' _ _ p q
 
 pub mq-list-bytes-total : (κs : _) (a : _) → list.Pre κs a
 mq-list-bytes-total κs a = tt

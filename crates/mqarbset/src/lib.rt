@@ -1,7 +1,8 @@
-// The C interface: each call of document 01 under the prefix mq_, with its answer as a struct. A slice passes as a pointer and then a length.
+// The C interface: each call of documents 01 and 02 under the prefix mq_, with its answer as a struct. A slice passes as a pointer and then a length.
 // Each export only calls the proved call and turns its answer into the struct.
 pub mod book;
 pub mod pages;
+pub mod pairs;
 pub mod slots;
 pub mod version;
 

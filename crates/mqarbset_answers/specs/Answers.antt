@@ -1,7 +1,6 @@
 -- How an answer of document 01 is written over C, and how a C caller reads it. Cited by the promises of the exports.
 -- Assumes nothing.
 use mathlib.Core.Bool.{cond}
-use mathlib.Core.List.{List}
 use Prim.Native.Nat.{ℕ}
 use lib.Dec.{eqb}
 use Rattle.refusals.specs.Refusals.{Answer, Outcome, refused, answered, _leaving_}
@@ -13,7 +12,7 @@ answerAsC (refused n) = record { refusal = n; value = 0 }
 answerAsC (answered v) = record { refusal = 0; value = v }
 
 -- an outcome as the struct, and the lent memory afterwards
-unfoldable pub outcomeAsC : Outcome ℕ (List ℕ) → MqAnswer × List ℕ
+unfoldable pub outcomeAsC : {M : Type 0} → Outcome ℕ M → MqAnswer × M
 outcomeAsC (a leaving m) = (answerAsC a, m)
 
 -- what a C caller reads: 0 is nobody's refusal number, so it says that the value is the answer

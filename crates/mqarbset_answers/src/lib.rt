@@ -1,5 +1,6 @@
-// The answers of document 01 as the structs of the C interface: each case of a call's enum turned into the struct.
+// The answers of documents 01 and 02 as the structs of the C interface: each case of a call's enum turned into the struct.
 pub mod pages;
+pub mod pairs;
 pub mod slots;
 
 ghost use mathlib.Core.Path.{_≡_};

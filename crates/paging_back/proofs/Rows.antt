@@ -2,27 +2,15 @@
 -- Assumes nothing.
 use mathlib.Core.Path.{_≡_, refl, sym, ap, _∙_}
 use mathlib.Core.List.{List, [], _∷_, _++_}
-use mathlib.Core.Logic.{⊎-elim}
 use Prim.Native.Nat.{ℕ, zero, suc, _+_, _-_, _<_, _≤_}
-use native.Mathlib.Nat.{eq-or-lt-of-le}
 use native.Mathlib.Omega.{arith}
-use lib.ListN.{getD, List·getD-append}
-use lib.Seq.{getD-at}
+use lib.ListN.{getD}
 use Rattle.laws.specs.Runs.{run}
-use Rattle.laws.proofs.Runs.{run-length}
+use Rattle.laws.proofs.Runs.{run-at}
 
 -- what stands at place p of such a row
 pub row-at : (g : ℕ → ℕ) (n p : ℕ) → p < n → getD (run (λ (i : ℕ). g (i - 1)) n) p 0 ≡ g p
-unfolding run
-row-at g zero p h = absurd (omega arith)
-row-at g (suc n) p h =
-    let f : ℕ → ℕ = λ i. g (i - 1) in
-    let k : n + 1 - 1 ≡ n = omega arith in
-    let m : p ≤ n = omega arith in
-    ⊎-elim
-    (λ (e : p ≡ n). ap (λ (i : ℕ). getD (run f n ++ (f (n + 1) ∷ [])) i 0) e ∙ getD-at (run f n) (f (n + 1)) [] 0 n (run-length f n) ∙ ap g k ∙ ap g (sym e))
-    (λ (l : p < n). List·getD-append (run f n) (f (n + 1) ∷ []) 0 p (omega (arith, run-length f n)) ∙ row-at g n p l)
-    (eq-or-lt-of-le m)
+row-at g n p h = let k : p + 1 - 1 ≡ p = omega arith in run-at (λ (i : ℕ). g (i - 1)) n p h ∙ ap g k
 
 -- two rows are equal where their values are
 pub row-same : (g h : ℕ → ℕ) (n : ℕ) → ((p : ℕ) → p < n → g p ≡ h p) → run (λ (i : ℕ). g (i - 1)) n ≡ run (λ (i : ℕ). h (i - 1)) n

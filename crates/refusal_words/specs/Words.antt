@@ -1,4 +1,5 @@
--- Document 01, "Refusal numbers": the words of each number, the column Condition of its table. Cited by the promise of `words`.
+-- Document 01, "Refusal numbers": the words of each number, the column Condition of its table; behind them those of document 02's numbers, which gives none
+-- (docs/LESSONS.md, "Refusals"). Cited by the promise of `words`.
 -- Assumes nothing.
 use mathlib.Core.Bool.{cond}
 use mathlib.Core.List.{List, [], _∷_, _++_}
@@ -34,7 +35,8 @@ conditions =
     "beacon rule" ∷
     "seat holds 40" ∷
     "common room used up" ∷
-    "no such booking" ∷ []
+    "no such booking" ∷
+    "level not 1 to 2047" ∷ []
 
 -- a number that is no refusal's has no words
 unfoldable pub wordsOf : ℕ → List ℕ

@@ -1,4 +1,4 @@
-// The words of document 01 for each refusal: for a caller over C to show, and for the program `bench`.
+// The words of each refusal, document 01's and those of document 02's numbers: for a caller over C to show, and for the program `bench`.
 ghost use mathlib.Core.Path.{_≡_};
 ghost use mathlib.Core.List.{_++_};
 ghost use Prim.Native.Nat.{_≤_};
@@ -38,7 +38,7 @@ fn put(text: &[u8], out: &mut [u8]) -> WordsAnswer
     WordsAnswer::Written(n as u32)
 }
 
-// Of 0, which has none, to 7. Three functions, since one match over all numbers is dear to check.
+// Of 0, which has none, to 7. Four functions, since one match over all numbers is dear to check.
 fn words_to_7(number: u32, out: &mut [u8]) -> WordsAnswer
     requires { ⌜ number ≤ 7 ⌝ }
     ensures { λ r. ⌜ saidWords r leaving now (out .exit) ≡ wordsOutcome number (now (out .entry)) ⌝ }
@@ -108,18 +108,29 @@ fn words_to_21(number: u32, out: &mut [u8]) -> WordsAnswer
     }
 }
 
+// Of 22, which is document 02's; and none above it.
+fn words_from_22(number: u32, out: &mut [u8]) -> WordsAnswer
+    requires { ⌜ 22 ≤ number ⌝ }
+    ensures { λ r. ⌜ saidWords r leaving now (out .exit) ≡ wordsOutcome number (now (out .entry)) ⌝ }
+{
+    match number {
+        22 => put(b"level not 1 to 2047", out),
+        _ => put(b"", out),
+    }
+}
+
 // The words of a refusal number; none for a number that is no refusal's. Refusal: 11.
 pub fn words(number: u32, out: &mut [u8]) -> WordsAnswer
     ensures { λ r. ⌜ saidWords r leaving now (out .exit) ≡ wordsOutcome number (now (out .entry)) ⌝ }
 {
-    if number > 21 {
-        return put(b"", out);
-    }
     if number < 8 {
         return words_to_7(number, out);
     }
     if number < 15 {
         return words_to_14(number, out);
     }
-    words_to_21(number, out)
+    if number < 22 {
+        return words_to_21(number, out);
+    }
+    words_from_22(number, out)
 }

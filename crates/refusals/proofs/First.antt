@@ -174,6 +174,16 @@ answer-given n value given e =
     let z : _≡_ {A = ℕ} 0 1 = cc in absurd (omega arith))
     (equal-or-not n 0)
 
+-- a call that refused found that refusal
+pub answer-refusal : {A : Type 0} (n : ℕ) (value : A) (given : ℕ) → answer n value ≡ refused given → (n ≡ given) × (n ≡ 0 → ⊥)
+answer-refusal n value given e =
+    ⊎-elim
+    (λ (z : n ≡ 0).
+    let a = answer-answered n value z in
+    let z : _≡_ {A = ℕ} 0 1 = cc in absurd (omega arith))
+    (λ (d : n ≡ 0 → ⊥). let r = answer-refused n value d in (cc, d))
+    (equal-or-not n 0)
+
 pub leaving-given : {A M : Type 0} (n : ℕ) (value given : A) (before made left : M)
     → (answer n value leaving after n before made) ≡ (answered given leaving left)
     → (n ≡ 0) × (value ≡ given) × (made ≡ left)

@@ -1,0 +1,136 @@
+-- What each `return` of the two calls answers, over plain values. Cited by the proofs of at_any_level, pair and pairs.
+-- Assumes nothing.
+use mathlib.Core.Path.{_≡_, refl, sym, ap, _∙_}
+use mathlib.Core.Bool.{Bool, true, false, _||_}
+use mathlib.Core.List.{List, [], _∷_, _++_}
+use Prim.Native.Nat.{ℕ, _+_, _*_, _≤_}
+use native.Mathlib.Omega.{arith}
+use lib.Dec.{T, ltb}
+use lib.ListN.{length, take, drop, getD, length-append}
+use lib.Seq.{take-at}
+use lib.Ieee.{Float}
+use borrow.Author.Tests.{ltb-false}
+use Rattle.laws.specs.Runs.{run}
+use Rattle.laws.proofs.Bools.{or-false}
+use Rattle.laws.proofs.Runs.{run-length}
+use Rattle.refusals.specs.Refusals.{Answer, refused, answered, Refusals, _leaving_, firstOf, answer}
+use Rattle.refusals.specs.Inside.{orRefused}
+use Rattle.refusals.proofs.First.{numbered, first-holds, first-passes, first-none, append-refused, append-passes, reads-behind, reads-row, reads-all, append-front, answer-given, answer-refusal, refused-by, refused-leaving, answered-by, answered-leaving}
+use Rattle.conditions.specs.Conditions.{badLevel, tooShort}
+use Rattle.tables.specs.Tables.{userRefusals}
+use Rattle.codes.specs.declared.Code.{Code}
+use Rattle.codes.specs.Codes.{codeOf, shiftOf}
+use Rattle.elements.specs.Elements.{rowsOf, element}
+use Rattle.midambles.specs.TrainingSequences.{chipOf, chipsOf}
+use Rattle.midambles.specs.Calls.{chipRefusals, chipAnswer, saidChip}
+use Rattle.midambles.specs.declared.ChipAnswer.the-variants as chip
+use Rattle.midambles.proofs.Passed.{Passed, passed}
+use Rattle.midambles.proofs.Answers.{user-numbered, chip-numbered, chips-of}
+use Rattle.signal_card.specs.declared.ComplexChip.{ComplexChip}
+use Rattle.signal_card.specs.declared.PairAnswer.{PairAnswer}
+use Rattle.signal_card.specs.declared.PairAnswer.the-variants as pair
+use Rattle.signal_card.specs.declared.PairsAnswer.the-variants as pairs
+use Rattle.signal_card.specs.SignalCard.{realOf, imaginaryOf, floatsOf}
+use Rattle.signal_card.specs.Inside.{chipAt}
+use Rattle.signal_card.specs.Calls.{pairRefusals, pairsRefusals, pairAnswer, pairsOutcome, saidPair, saidPairs}
+
+-- a level that is not refused
+pub level-inside : (a : ℕ) → badLevel a ≡ false → (1 ≤ a) × (a ≤ 2047)
+unfolding badLevel
+level-inside a e =
+    let inside = or-false (ltb a 1) (ltb 2047 a) e in
+    (ltb-false a 1 (inside .0), ltb-false 2047 a (inside .1))
+
+-- a chip whose power of j is known: b is what the test of the level gave
+module _ (a p : ℕ) (b : Bool) (t : b ≡ badLevel a) where
+  pub level-refused : b ≡ true → saidPair (pair.Refused 22) ≡ answer (firstOf ((22, badLevel a) ∷ [])) (realOf a p, imaginaryOf a p)
+  unfolding saidPair
+  level-refused h = refused-by 22 _ _ (sym (first-holds 22 (badLevel a) [] (sym t ∙ h))) (λ z. omega arith)
+
+  pub level-good : b ≡ false → (1 ≤ a) × (a ≤ 2047)
+  level-good h = level-inside a (sym t ∙ h)
+
+  pub level-answered : (c : ComplexChip) → b ≡ false → c ≡ chipAt a p
+      → saidPair (pair.Pair c) ≡ answer (firstOf ((22, badLevel a) ∷ [])) (realOf a p, imaginaryOf a p)
+  unfolding saidPair chipAt firstOf
+  level-answered c h e =
+      answered-by 0 _ _ _ (sym (first-passes 22 (badLevel a) [] (sym t ∙ h))) refl (ap (λ (d : ComplexChip). (d .re, d .im)) e)
+
+-- one chip
+module _ (cell burst count user i a : ℕ) where
+  pub pair-refused : (n : ℕ) → saidChip (chip.Refused n) ≡ chipAnswer cell burst count user i → saidPair (pair.Refused n) ≡ pairAnswer cell burst count user i a
+  unfolding saidChip chipAnswer saidPair pairAnswer pairRefusals
+  pair-refused n e =
+      let r = answer-refusal (firstOf (chipRefusals cell burst count user i)) (chipOf cell burst user i) n (sym e) in
+      refused-by n _ _ (sym (r .0) ∙ sym (append-refused (chipRefusals cell burst count user i) ((22, badLevel a) ∷ []) (r .1))) (λ z. r .1 (r .0 ∙ z))
+
+  pub pair-answered : (p : ℕ) (r : PairAnswer) → saidChip (chip.Power p) ≡ chipAnswer cell burst count user i
+      → saidPair r ≡ answer (firstOf ((22, badLevel a) ∷ [])) (realOf a p, imaginaryOf a p) → saidPair r ≡ pairAnswer cell burst count user i a
+  unfolding saidChip chipAnswer pairAnswer pairRefusals
+  pair-answered p r e f =
+      let g = answer-given (firstOf (chipRefusals cell burst count user i)) (chipOf cell burst user i) p (sym e) in
+      f
+      ∙ ap (λ (k : ℕ). answer (firstOf ((22, badLevel a) ∷ [])) (realOf a k, imaginaryOf a k)) (sym (g .1))
+      ∙ ap (λ (n : ℕ). answer n (realOf a (chipOf cell burst user i), imaginaryOf a (chipOf cell burst user i)))
+      (sym (append-passes (chipRefusals cell burst count user i) ((22, badLevel a) ∷ []) (chip-numbered cell burst count user i) (g .0)))
+
+-- a whole midamble: d is the code that was fetched, m what the tests of the user gave, k and n what those of the memory and of the level made of it
+module _ (cell burst count user a m k n : ℕ) (b : Bool) (out : List Float) (d : Code) (e : d ≡ codeOf burst) (t : b ≡ badLevel a)
+    (u : m ≡ firstOf (userRefusals cell burst count user)) (s : k ≡ orRefused m 11 (ltb (length out) (2 * d .length))) (r : n ≡ orRefused k 22 b) where
+  abbrev behind : Refusals
+  behind = (11, tooShort (2 * codeOf burst .length) out) ∷ (22, badLevel a) ∷ []
+
+  pairs-first : n ≡ firstOf (pairsRefusals cell burst count user a out)
+  unfolding pairsRefusals tooShort
+  pairs-first =
+      reads-all
+      (reads-row
+      (reads-row (reads-behind (userRefusals cell burst count user) behind (user-numbered cell burst count user) tt u) (ap (λ (x : Code). tooShort (2 * x .length) out) e) s)
+      t
+      r)
+
+  pub pairs-refused : (n ≡ 0 → ⊥) → saidPairs (pairs.Refused n) leaving out ≡ pairsOutcome cell burst count user a out
+  unfolding saidPairs pairsOutcome
+  pairs-refused h = refused-leaving n _ _ out _ pairs-first h
+
+  user-none : n ≡ 0 → firstOf (userRefusals cell burst count user) ≡ 0
+  unfolding pairsRefusals
+  user-none z = append-front (userRefusals cell burst count user) behind (user-numbered cell burst count user) (sym pairs-first ∙ z)
+
+  behind-none : n ≡ 0 → (tooShort (2 * codeOf burst .length) out ≡ false) × (badLevel a ≡ false)
+  unfolding pairsRefusals
+  behind-none z =
+      let rest = sym (append-passes (userRefusals cell burst count user) behind (user-numbered cell burst count user) (user-none z)) ∙ sym pairs-first ∙ z in
+      let room = first-none 10 (tooShort (2 * codeOf burst .length) out) _ rest in
+      (room .0, first-none 21 (badLevel a) [] (room .1) .0)
+
+  pub pairs-passed : n ≡ 0 → Passed cell user
+  pairs-passed z = passed cell burst count user (user-none z)
+
+  pub pairs-room : n ≡ 0 → 2 * codeOf burst .length ≤ length out
+  unfolding tooShort
+  pairs-room z = ltb-false (length out) (2 * codeOf burst .length) (behind-none z .0)
+
+  pub pairs-level : n ≡ 0 → (1 ≤ a) × (a ≤ 2047)
+  pairs-level z = level-inside a (behind-none z .1)
+
+  -- the chips as they were filled, and the floats of their front
+  pub pairs-written : n ≡ 0 → (by : ℕ) (l was : List ℕ) (left : List Float) → by ≡ shiftOf (codeOf burst) user
+      → l ≡ run (λ (i : ℕ). element (codeOf burst .period) (getD (rowsOf burst) cell []) (i + by)) (codeOf burst .length) ++ drop (codeOf burst .length) was
+      → left ≡ floatsOf a (take (d .length) l) ++ drop (2 * d .length) out
+      → saidPairs (pairs.Written (2 * d .length)) leaving left ≡ pairsOutcome cell burst count user a out
+  unfolding saidPairs pairsOutcome
+  pairs-written z by l was left w f v =
+      let L = codeOf burst .length in
+      let filled = run (λ (i : ℕ). element (codeOf burst .period) (getD (rowsOf burst) cell []) (i + by)) L in
+      let chips : take L l ≡ chipsOf cell burst user =
+      ap (λ (x : List ℕ). take L x) f ∙ take-at filled (drop L was) L (run-length _ L) ∙ chips-of burst cell user by w in
+      answered-leaving n _ _ _ out left _ pairs-first z
+      (ap (λ (x : Code). 2 * x .length) e)
+      (v
+      ∙ ap (λ (x : Code). floatsOf a (take (x .length) l) ++ drop (2 * x .length) out) e
+      ∙ ap (λ (x : List ℕ). floatsOf a x ++ drop (2 * L) out) chips)
+
+-- a row that a run was written into is as long as the run, at the least
+pub run-room : (f : ℕ → ℕ) (n : ℕ) (rest l : List ℕ) → l ≡ run f n ++ rest → n ≤ length l
+run-room f n rest l e = omega (arith, ap (λ (x : List ℕ). length x) e, length-append (run f n) rest, run-length f n)

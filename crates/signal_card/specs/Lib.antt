@@ -1,0 +1,3 @@
+pub mod SignalCard
+pub mod Inside
+pub mod Calls

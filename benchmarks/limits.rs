@@ -6,6 +6,7 @@ pub struct Limit {
 }
 
 pub const MIDAMBLE: Limit = Limit { what: "a whole midamble", times: 1.2 };
+pub const PAIRS: Limit = Limit { what: "a row of pairs", times: 1.2 };
 pub const PAGE: Limit = Limit { what: "a page", times: 1.5 };
 pub const EMPTY_BOOK: Limit = Limit { what: "an empty book over C", times: 1.5 };
 pub const BOOKING: Limit = Limit { what: "a booking inside the library", times: 1.5 };

@@ -16,6 +16,7 @@ mod paging;
 mod plain;
 mod refusals;
 mod rows;
+mod signal_card;
 mod table;
 mod timeslots;
 
@@ -27,18 +28,25 @@ const ROUNDS: usize = 201;
 /// The table of all calls; whether its limits hold.
 fn calls() -> bool {
     println!(
-        "library and plain Rust give equal answers and equal memory: {} calls of midambles, {} of timeslots and beacons, {} of paging, {} of refusals' words, {} of the class book",
+        "library and plain Rust give equal answers and equal memory: {} calls of midambles, {} of the signal card, {} of timeslots and beacons, {} of paging, {} of refusals' words, {} of the class book",
         midambles::compare(),
+        signal_card::compare(),
         timeslots::compare(),
         paging::compare(),
         refusals::compare(),
         book::compare()
     );
-    let mut lines: Vec<table::Line> =
-        [midambles::lines(), timeslots::lines(), paging::lines(), refusals::lines(), book::lines()]
-            .into_iter()
-            .flatten()
-            .collect();
+    let mut lines: Vec<table::Line> = [
+        midambles::lines(),
+        signal_card::lines(),
+        timeslots::lines(),
+        paging::lines(),
+        refusals::lines(),
+        book::lines(),
+    ]
+    .into_iter()
+    .flatten()
+    .collect();
     for round in 0..ROUNDS {
         for line in &mut lines {
             line.round(round);
@@ -52,10 +60,14 @@ fn calls() -> bool {
     println!(
         "\n(*) for information: plain Rust's quickest loop that we know of for a whole midamble"
     );
-    let limits: [&Limit; 3] = [&limits::MIDAMBLE, &limits::PAGE, &limits::EMPTY_BOOK];
+    println!(
+        "(**) for information: plain Rust that reads each chip and writes its two floats at once"
+    );
+    let limits: [&Limit; 4] =
+        [&limits::MIDAMBLE, &limits::PAIRS, &limits::PAGE, &limits::EMPTY_BOOK];
     let held =
         limits.map(|limit| limit.holds(lines.iter().filter_map(|line| line.ratio_of(limit))));
-    held == [true; 3]
+    held == [true; 4]
 }
 
 /// The table of the growth; whether its limit holds.

@@ -21,6 +21,22 @@ impl MqAnswer {
     }
 }
 
+/// A chip for the signal card. Two are the same where their bits are: minus zero is not zero.
+#[repr(C)]
+#[derive(Clone, Copy, Debug, Default)]
+pub struct MqPair {
+    pub refusal: u32,
+    pub re: f32,
+    pub im: f32,
+}
+
+impl PartialEq for MqPair {
+    fn eq(&self, other: &MqPair) -> bool {
+        let bits = |pair: &MqPair| (pair.refusal, pair.re.to_bits(), pair.im.to_bits());
+        bits(self) == bits(other)
+    }
+}
+
 #[repr(C)]
 #[derive(Clone, Copy, Debug, Default, PartialEq, Eq)]
 pub struct MqParts {

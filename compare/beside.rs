@@ -2,13 +2,13 @@
 //! and lent memory are compared whole; where they differ, the run ends with exit 1. The calls of the class book are in
 //! bookings.rs.
 
-use library::{MqAnswer, MqBeacons, MqBook, MqIndicator, MqOwner, MqParts, MqPlace};
+use library::{MqAnswer, MqBeacons, MqBook, MqIndicator, MqOwner, MqPair, MqParts, MqPlace};
 use second::beacons::beacon_timeslots;
 use second::book::Book;
 use second::refusals::Answer;
 use second::rows::Rows;
 use second::timeslots::{self, Direction, Label, Question, Timeslot};
-use second::{midambles, paging};
+use second::{midambles, paging, signal_card};
 use std::fmt::Debug;
 use std::process::exit;
 
@@ -16,7 +16,7 @@ use std::process::exit;
 #[derive(Clone, Default)]
 pub struct Tally {
     pub calls: u64,
-    pub by_refusal: [u64; 22],
+    pub by_refusal: [u64; 23],
 }
 
 impl Tally {
@@ -57,6 +57,19 @@ pub fn lent(length: usize) -> Vec<u8> {
     (0..length).map(|n| 100 + (n % 100) as u8).collect()
 }
 
+/// A lent row of floats before a call, by their bits: NaNs of both signs and many patterns, minus zero, an infinity, and
+/// numbers.
+pub fn lent_floats(length: usize) -> Vec<f32> {
+    let bits = |n: usize| match n % 5 {
+        0 => 0x7F80_0001 + n as u32,
+        1 => 0x8000_0000,
+        2 => 0xFFC0_0000 + n as u32,
+        3 => 0x7F80_0000,
+        _ => 0x3F80_0000 + n as u32,
+    };
+    (0..length).map(|n| f32::from_bits(bits(n))).collect()
+}
+
 pub fn expect<T: PartialEq + Debug>((name, numbers): Call, what: &str, library: T, model: T) {
     if library != model {
         eprintln!(
@@ -74,6 +87,18 @@ pub fn expect_memory(call: Call, library: &[u8], model: &[u8]) {
         expect(call, &what, library[place], model[place]);
     }
     expect(call, "length of lent memory", library.len(), model.len());
+}
+
+/// Compares a lent row of floats whole, by their bits.
+pub fn expect_floats(call: Call, library: &[f32], model: &[f32]) {
+    let bits = |row: &[f32]| row.iter().map(|x| x.to_bits()).collect::<Vec<u32>>();
+    let (library, model) = (bits(library), bits(model));
+    let differing = library.iter().zip(&model).position(|(ours, theirs)| ours != theirs);
+    if let Some(place) = differing {
+        let what = format!("bits of lent float {place}");
+        expect(call, &what, library[place], model[place]);
+    }
+    expect(call, "length of the lent row", library.len(), model.len());
 }
 
 /// What a call that writes into lent memory answers, as the library has it.
@@ -164,6 +189,39 @@ impl<'a> Beside<'a> {
         let call = ("midamble", &numbers[..]);
         expect(call, "answer", answer, written(&wanted));
         expect_memory(call, &memory, &expected);
+        self.count(number(&wanted));
+        wanted.map(|_| expected)
+    }
+
+    // ---- the signal card
+
+    pub fn pair(&mut self, numbers: [u32; 6]) {
+        let [cell, burst, count, user, i, level] = numbers;
+        let wanted = match signal_card::one_pair(self.rows, cell, burst, count, user, i, level) {
+            Ok((re, im)) => MqPair { refusal: 0, re, im },
+            Err(refusal) => MqPair { refusal, ..MqPair::default() },
+        };
+        self.pair_is(numbers, wanted);
+    }
+
+    /// The same, where the model's answer is known.
+    pub fn pair_is(&mut self, numbers: [u32; 6], wanted: MqPair) {
+        let [cell, burst, count, user, i, level] = numbers;
+        let answer = library::pair(cell, burst, count, user, i, level);
+        expect(("pair", &numbers), "answer", answer, wanted);
+        self.count(wanted.refusal);
+    }
+
+    /// Gives the model's row afterwards, or the refusal.
+    pub fn pairs(&mut self, numbers: [u32; 5], length: usize) -> Answer<Vec<f32>> {
+        let [cell, burst, count, user, level] = numbers;
+        let (mut row, mut expected) = (lent_floats(length), lent_floats(length));
+        let wanted =
+            signal_card::all_pairs(self.rows, cell, burst, count, user, level, &mut expected);
+        let answer = library::pairs(cell, burst, count, user, level, &mut row);
+        let call = ("pairs", &numbers[..]);
+        expect(call, "answer", answer, written(&wanted));
+        expect_floats(call, &row, &expected);
         self.count(number(&wanted));
         wanted.map(|_| expected)
     }

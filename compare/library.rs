@@ -24,6 +24,23 @@ mod c {
             out: *mut u8,
             length: usize,
         ) -> MqAnswer;
+        pub fn mq_pair(
+            cell: u32,
+            burst: u32,
+            count: u32,
+            user: u32,
+            chip: u32,
+            level: u32,
+        ) -> MqPair;
+        pub fn mq_pairs(
+            cell: u32,
+            burst: u32,
+            count: u32,
+            user: u32,
+            level: u32,
+            out: *mut f32,
+            length: usize,
+        ) -> MqAnswer;
         pub fn mq_parts(burst: u32, direction: u32, factor: u32, tfci: u32, tpc: u32) -> MqParts;
         pub fn mq_at(
             burst: u32,
@@ -100,6 +117,23 @@ pub fn chip(cell: u32, burst: u32, count: u32, user: u32, chip: u32) -> MqAnswer
 #[inline]
 pub fn midamble(cell: u32, burst: u32, count: u32, user: u32, out: &mut [u8]) -> MqAnswer {
     unsafe { c::mq_midamble(cell, burst, count, user, out.as_mut_ptr(), out.len()) }
+}
+
+#[inline]
+pub fn pair(cell: u32, burst: u32, count: u32, user: u32, chip: u32, level: u32) -> MqPair {
+    unsafe { c::mq_pair(cell, burst, count, user, chip, level) }
+}
+
+#[inline]
+pub fn pairs(
+    cell: u32,
+    burst: u32,
+    count: u32,
+    user: u32,
+    level: u32,
+    out: &mut [f32],
+) -> MqAnswer {
+    unsafe { c::mq_pairs(cell, burst, count, user, level, out.as_mut_ptr(), out.len()) }
 }
 
 #[inline]

@@ -20,13 +20,13 @@ fn fail(what: &str) -> ! {
     exit(1);
 }
 
-/// The words of each refusal are document 01's, and other numbers have none.
+/// The words of each refusal are those of document 01 and docs/LESSONS.md, and other numbers have none.
 fn words() {
     for number in (0..=30).chain([u32::MAX]) {
         let mut out = [0; 400];
         let answer = library::refusal_text(number, &mut out);
         let said = String::from_utf8_lossy(&out[..answer.value as usize]);
-        let wanted = if (1..=21).contains(&number) { condition(number) } else { "" };
+        let wanted = if (1..=22).contains(&number) { condition(number) } else { "" };
         if said != wanted {
             fail(&format!("the words of refusal {number} are {said:?}"));
         }
@@ -35,7 +35,7 @@ fn words() {
 
 /// The refusals of these that never came.
 fn missing(tally: &Tally) -> Vec<usize> {
-    (0..=21).filter(|number| tally.by_refusal[*number] == 0).collect()
+    (0..=22).filter(|number| tally.by_refusal[*number] == 0).collect()
 }
 
 fn every(rows: &Rows) {

@@ -139,6 +139,12 @@ impl Lesson<'_> {
                 let room = self.around(if numbers[1] == 2 { 256 } else { 512 });
                 let _ = self.both.midamble(numbers, room);
             }
+            "pair" => self.both.pair(call.numbers()),
+            "pairs" => {
+                let numbers: [u32; 5] = call.numbers();
+                let room = self.around(if numbers[1] == 2 { 512 } else { 1024 });
+                let _ = self.both.pairs(numbers, room);
+            }
             "parts" => {
                 let [burst, factor, tfci, tpc] = call.numbers();
                 let direction = direction_number(call.direction());

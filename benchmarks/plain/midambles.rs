@@ -3,24 +3,24 @@
 use crate::rows;
 use library::MqAnswer;
 
-static LONG: [u8; 7296] = rows::table(b"long ", 57);
-static SHORT: [u8; 3072] = rows::table(b"short ", 24);
+pub static LONG: [u8; 7296] = rows::table(b"long ", 57);
+pub static SHORT: [u8; 3072] = rows::table(b"short ", 24);
 
-struct Code {
+pub struct Code {
     base: u32,
     step: u32,
     half: u32,
-    length: u32,
+    pub length: u32,
 }
 
-fn code_of(burst: u32) -> Code {
+pub fn code_of(burst: u32) -> Code {
     if burst == 2 {
         return Code { base: 3, step: 64, half: 32, length: 256 };
     }
     Code { base: 8, step: 57, half: 28, length: 512 }
 }
 
-fn user_refusal(cell: u32, burst: u32, count: u32, user: u32) -> u32 {
+pub fn user_refusal(cell: u32, burst: u32, count: u32, user: u32) -> u32 {
     if cell > 127 {
         return 1;
     }
@@ -37,7 +37,7 @@ fn user_refusal(cell: u32, burst: u32, count: u32, user: u32) -> u32 {
     0
 }
 
-fn shift(c: &Code, user: u32) -> u32 {
+pub fn shift(c: &Code, user: u32) -> u32 {
     if user <= c.base {
         return (c.base - user) * c.step;
     }
@@ -48,7 +48,7 @@ fn shift(c: &Code, user: u32) -> u32 {
 }
 
 /// Element chip + by of row n of a table of rows of w bytes, as its power of j.
-fn element_in(t: &[u8], w: u32, n: u32, chip: u32, by: u32) -> u8 {
+pub fn element_in(t: &[u8], w: u32, n: u32, chip: u32, by: u32) -> u8 {
     let i = chip + by;
     let p = (i - 1) % (8 * w);
     let b = t[(n * w + p / 8) as usize];
@@ -56,7 +56,7 @@ fn element_in(t: &[u8], w: u32, n: u32, chip: u32, by: u32) -> u8 {
     ((i + 2 * (1 - bit as u32)) % 4) as u8
 }
 
-fn fill_from(t: &[u8], w: u32, n: u32, by: u32, count: usize, out: &mut [u8]) {
+pub fn fill_from(t: &[u8], w: u32, n: u32, by: u32, count: usize, out: &mut [u8]) {
     let mut i = 0;
     while i < count {
         out[i] = element_in(t, w, n, i as u32 + 1, by);

@@ -5,4 +5,5 @@ pub mod book;
 pub mod midambles;
 pub mod paging;
 pub mod refusals;
+pub mod signal_card;
 pub mod timeslots;

@@ -2,7 +2,7 @@
 
 use library::MqAnswer;
 
-const WORDS: [&str; 22] = [
+const WORDS: [&str; 23] = [
     "",
     "cell parameter above 127",
     "burst type not 1, 2 or 3",
@@ -25,6 +25,7 @@ const WORDS: [&str; 22] = [
     "seat holds 40",
     "common room used up",
     "no such booking",
+    "level not 1 to 2047",
 ];
 
 #[inline(never)]

@@ -3,6 +3,7 @@
 mod book;
 mod midambles;
 mod paging;
+mod signal_card;
 mod timeslots;
 
 use crate::beside::{Beside, Tally};
@@ -14,6 +15,7 @@ const LARGEST: u32 = u32::MAX;
 pub fn run(rows: &Rows) -> Tally {
     let both = &mut Beside::new(rows);
     midambles::run(both);
+    signal_card::run(both);
     timeslots::run(both);
     paging::run(both);
     book::run(both);

@@ -3,8 +3,10 @@
 use mathlib.Core.List.{List}
 use Prim.Native.Nat.{ℕ}
 use lib.ListN.{length, getD}
-use Rattle.refusals.specs.Refusals.{Answer, refused, answered}
+use lib.Ieee.{Float}
+use Rattle.refusals.specs.Refusals.{Answer, Outcome, refused, answered}
 use Rattle.midambles.specs.Calls.{chipAnswer}
+use Rattle.signal_card.specs.Calls.{pairAnswer, pairsOutcome}
 use Rattle.beacons.specs.Calls.{beaconAnswer}
 use Rattle.paging.specs.Paging.{Owner, reserved, owned}
 use Rattle.paging.specs.Calls.{ownerAnswer}
@@ -61,6 +63,14 @@ symbolReply s = atReply (saidAt (chip.Symbol s))
 -- what the words of a line ask for: "`chip CELL TYPE COUNT USER I`"
 unfoldable pub chipAsked : Values → Reply
 chipAsked v = chipReply (chipAnswer (v .first) (v .second) (v .third) (v .fourth) (v .fifth))
+
+-- "`pair CELL TYPE COUNT USER I LEVEL`", before it is written as a line
+unfoldable pub pairAsked : Values → Answer (Float × Float)
+pairAsked v = pairAnswer (v .first) (v .second) (v .third) (v .fourth) (v .fifth) (v .sixth)
+
+-- "`pairs CELL TYPE COUNT USER LEVEL`", likewise, into a row
+unfoldable pub pairsAsked : Values → List Float → Outcome ℕ (List Float)
+pairsAsked v row = pairsOutcome (v .first) (v .second) (v .third) (v .fourth) (v .fifth) row
 
 -- "`beacon CASE K`"
 unfoldable pub beaconAsked : Values → Reply

@@ -13,6 +13,8 @@ pub fn help(out: &mut [u8; 4096], at: usize) -> usize {
             \x20                                       SLOT up|down TYPE FACTOR INDEX USER TFCI TPC\n\
             chip CELL TYPE COUNT USER I             chip P\n\
             midamble CELL TYPE COUNT USER           midamble and its chips, digits 0 to 3\n\
+            pair CELL TYPE COUNT USER I LEVEL       pair RE IM, for the signal card at a level of 1 to 2047\n\
+            pairs CELL TYPE COUNT USER LEVEL        pairs and RE IM of every chip\n\
             parts TYPE up|down FACTOR TFCI TPC      parts, seven START+LENGTH, bits B1 B2\n\
             at TYPE up|down FACTOR TFCI TPC CHIP    data1, tfci1, midamble, tpc, tfci2, data2 or guard, and N\n\
             beacon CASE K                           beacon and one or two timeslots\n\

@@ -54,6 +54,13 @@ pub fn digits(out: &mut [u8; 4096], at: usize, word: &[u8], values: &[u8], count
     printing::put(out, n, b'\n')
 }
 
+// A word and the first floats of a row as whole numbers, parted by blanks.
+pub fn wholes(out: &mut [u8; 4096], at: usize, word: &[u8], row: &[f32], count: u32) -> usize {
+    let n = printing::word(out, at, word);
+    let n = printing::wholes(out, n, row, count);
+    printing::put(out, n, b'\n')
+}
+
 // What is said of a line that is no call: `line N` and a text. `./bench` hears of it.
 pub fn no_call(out: &mut [u8; 4096], at: usize, number: u64, text: &[u8]) -> usize {
     printing::complain();
@@ -99,6 +106,8 @@ pub fn expected(out: &mut [u8; 4096], at: usize, number: u64, call: u32) -> usiz
             list SEAT\n\
             chip CELL TYPE COUNT USER I\n\
             midamble CELL TYPE COUNT USER\n\
+            pair CELL TYPE COUNT USER I LEVEL\n\
+            pairs CELL TYPE COUNT USER LEVEL\n\
             parts TYPE up|down FACTOR TFCI TPC\n\
             at TYPE up|down FACTOR TFCI TPC CHIP\n\
             beacon CASE K\n\

@@ -79,6 +79,41 @@ pub fn number(out: &mut [u8; 4096], at: usize, value: u64) -> usize {
     word(out, at, &text[..k])
 }
 
+// A float without its fraction, in decimal; `?` where it is below zero, beyond 64 bits or no number.
+fn size(out: &mut [u8; 4096], at: usize, x: f32) -> usize {
+    if -1.0 < x {
+        if x < 18446744073709551616.0 {
+            return number(out, at, std::num::truncating_f32_to_u64(x));
+        }
+    }
+    put(out, at, b'?')
+}
+
+// A float that is a whole number, in decimal: a minus sign stands before a negative one, and before minus zero.
+fn whole(out: &mut [u8; 4096], at: usize, x: f32) -> usize {
+    if (x < 0.0) | (1.0 / x < 0.0) {
+        let n = put(out, at, b'-');
+        return size(out, n, -x);
+    }
+    size(out, at, x)
+}
+
+// The first `count` floats of a row, or all that it has, as whole numbers with a blank before each.
+pub fn wholes(out: &mut [u8; 4096], at: usize, row: &[f32], count: u32) -> usize {
+    let end = count as usize;
+    let mut n = at;
+    let mut i = 0;
+    while i < row.len() {
+        if i == end {
+            return n;
+        }
+        n = put(out, n, b' ');
+        n = whole(out, n, row[i]);
+        i += 1;
+    }
+    n
+}
+
 fn wide(value: u32) -> u64 {
     value as u64
 }

@@ -3,16 +3,16 @@
 use mathlib.Core.Path.{_≡_, refl, sym, ap, _∙_}
 use mathlib.Core.Bool.{Bool, true, false, _||_}
 use mathlib.Core.List.{List, [], _∷_, _++_}
-use Prim.Native.Nat.{ℕ, _+_, _*_, _≤_}
+use Prim.Native.Nat.{ℕ, _+_, _*_, _<_, _≤_}
 use native.Mathlib.Omega.{arith}
 use lib.Dec.{T, ltb}
-use lib.ListN.{length, take, drop, getD, length-append}
+use lib.ListN.{length, take, drop, getD, length-append, List·getD-append}
 use lib.Seq.{take-at}
 use lib.Ieee.{Float}
 use borrow.Author.Tests.{ltb-false}
 use Rattle.laws.specs.Runs.{run}
 use Rattle.laws.proofs.Bools.{or-false}
-use Rattle.laws.proofs.Runs.{run-length}
+use Rattle.laws.proofs.Runs.{run-length, run-at}
 use Rattle.refusals.specs.Refusals.{Answer, refused, answered, Refusals, _leaving_, firstOf, answer}
 use Rattle.refusals.specs.Inside.{orRefused}
 use Rattle.refusals.proofs.First.{numbered, first-holds, first-passes, first-none, append-refused, append-passes, reads-behind, reads-row, reads-all, append-front, answer-given, answer-refusal, refused-by, refused-leaving, answered-by, answered-leaving}
@@ -31,7 +31,7 @@ use Rattle.signal_card.specs.declared.PairAnswer.{PairAnswer}
 use Rattle.signal_card.specs.declared.PairAnswer.the-variants as pair
 use Rattle.signal_card.specs.declared.PairsAnswer.the-variants as pairs
 use Rattle.signal_card.specs.SignalCard.{realOf, imaginaryOf, floatsOf}
-use Rattle.signal_card.specs.Inside.{chipAt}
+use Rattle.signal_card.proofs.Parts.{element-below}
 use Rattle.signal_card.specs.Calls.{pairRefusals, pairsRefusals, pairAnswer, pairsOutcome, saidPair, saidPairs}
 
 -- a level that is not refused
@@ -50,11 +50,11 @@ module _ (a p : ℕ) (b : Bool) (t : b ≡ badLevel a) where
   pub level-good : b ≡ false → (1 ≤ a) × (a ≤ 2047)
   level-good h = level-inside a (sym t ∙ h)
 
-  pub level-answered : (c : ComplexChip) → b ≡ false → c ≡ chipAt a p
+  pub level-answered : (c : ComplexChip) → b ≡ false → c .re ≡ realOf a p → c .im ≡ imaginaryOf a p
       → saidPair (pair.Pair c) ≡ answer (firstOf ((22, badLevel a) ∷ [])) (realOf a p, imaginaryOf a p)
-  unfolding saidPair chipAt firstOf
-  level-answered c h e =
-      answered-by 0 _ _ _ (sym (first-passes 22 (badLevel a) [] (sym t ∙ h))) refl (ap (λ (d : ComplexChip). (d .re, d .im)) e)
+  unfolding saidPair firstOf
+  level-answered c h e f =
+      answered-by 0 _ _ _ (sym (first-passes 22 (badLevel a) [] (sym t ∙ h))) refl (λ j. (e j, f j))
 
 -- one chip
 module _ (cell burst count user i a : ℕ) where
@@ -63,6 +63,13 @@ module _ (cell burst count user i a : ℕ) where
   pair-refused n e =
       let r = answer-refusal (firstOf (chipRefusals cell burst count user i)) (chipOf cell burst user i) n (sym e) in
       refused-by n _ _ (sym (r .0) ∙ sym (append-refused (chipRefusals cell burst count user i) ((22, badLevel a) ∷ []) (r .1))) (λ z. r .1 (r .0 ∙ z))
+
+  pub power-below : (p : ℕ) → saidChip (chip.Power p) ≡ chipAnswer cell burst count user i → p < 4
+  unfolding saidChip chipAnswer chipOf
+  power-below p e =
+      let g = answer-given (firstOf (chipRefusals cell burst count user i)) (chipOf cell burst user i) p (sym e) in
+      let below : chipOf cell burst user i < 4 = element-below (codeOf burst .period) (getD (rowsOf burst) cell []) (i + shiftOf (codeOf burst) user) in
+      omega (arith, g .1)
 
   pub pair-answered : (p : ℕ) (r : PairAnswer) → saidChip (chip.Power p) ≡ chipAnswer cell burst count user i
       → saidPair r ≡ answer (firstOf ((22, badLevel a) ∷ [])) (realOf a p, imaginaryOf a p) → saidPair r ≡ pairAnswer cell burst count user i a
@@ -130,6 +137,15 @@ module _ (cell burst count user a m k n : ℕ) (b : Bool) (out : List Float) (d 
       (v
       ∙ ap (λ (x : Code). floatsOf a (take (x .length) l) ++ drop (2 * x .length) out) e
       ∙ ap (λ (x : List ℕ). floatsOf a x ++ drop (2 * L) out) chips)
+
+-- each chip of a row that elements were written into is a power of j
+pub filled-below : (P by n : ℕ) (row rest l : List ℕ) → l ≡ run (λ (i : ℕ). element P row (i + by)) n ++ rest → (k : ℕ) → k < n → getD l k 0 < 4
+filled-below P by n row rest l e k h =
+    let f : ℕ → ℕ = λ i. element P row (i + by) in
+    let below : f (k + 1) < 4 = element-below P row (k + 1 + by) in
+    let same : getD l k 0 ≡ f (k + 1) =
+    ap (λ (x : List ℕ). getD x k 0) e ∙ List·getD-append (run f n) rest 0 k (omega (arith, run-length f n)) ∙ run-at f n k h in
+    omega (arith, same, below)
 
 -- a row that a run was written into is as long as the run, at the least
 pub run-room : (f : ℕ → ℕ) (n : ℕ) (rest l : List ℕ) → l ≡ run f n ++ rest → n ≤ length l

@@ -1,82 +1,59 @@
--- Which float each part of a chip is, by its power of j. Cited by the proofs of `real_part`, `imaginary_part` and `chip_at`.
+-- The four chips as the code makes them, and one of them. Cited by the proofs of this crate.
 -- Assumes nothing.
 use mathlib.Core.Path.{_≡_, refl, sym, ap, _∙_}
-use Prim.Native.Nat.{ℕ, zero, suc, _≤_, _<_}
+use mathlib.Core.Bool.{Bool, true, false, cond}
+use mathlib.Core.List.{List, [], _∷_}
+use Prim.Native.Nat.{ℕ, zero, suc, _+_, _-_, _%_, _≤_, _<_}
+use native.Mathlib.Nat.{mod-lt}
 use native.Mathlib.Omega.{arith}
-use lib.Dec.{T, le→leb}
-use lib.IntN.{ℤ, pos, negℤ}
+use lib.Dec.{T, eqb, le→leb, lit≤}
+use lib.IntN.{pos, negℤ}
 use lib.Ieee.{Float, binary32, neg, ofInt, ofBits, inFloat}
-use borrow.Author.Tests.{ne-eqb}
+use Rattle.code_text.specs.Rows.{bitAt}
+use Rattle.elements.specs.Elements.{turned, basic, element}
 use Rattle.floats.proofs.Whole.{whole-negated, zero-plain}
 use Rattle.signal_card.specs.declared.ComplexChip.{ComplexChip}
-use Rattle.signal_card.specs.SignalCard.{pairOf, f32Of, realOf, imaginaryOf}
-use Rattle.signal_card.specs.Inside.{chipAt}
+use Rattle.signal_card.specs.SignalCard.{pairOf, f32Of, realOf, imaginaryOf, floatsOf}
+use Rattle.signal_card.specs.Inside.{chipIn}
 
 -- a level is a whole number that f32 holds
 pub level-fits : (a : ℕ) → a ≤ 2047 → T (inFloat binary32 (pos a))
 unfolding inFloat
 level-fits a h = le→leb a 16777216 (omega arith)
 
--- which part is the level, which is minus the level, and which is zero
-real-zero : (a p : ℕ) → (p ≡ 0 → ⊥) → (p ≡ 2 → ⊥) → pairOf a p .0 ≡ pos 0
-unfolding pairOf
-real-zero a zero x y = absurd (x refl)
-real-zero a (suc zero) x y = refl
-real-zero a (suc (suc zero)) x y = absurd (y refl)
-real-zero a (suc (suc (suc p))) x y =
-    let q = suc (suc (suc p)) in
-    simp (ne-eqb q 0 (λ e. omega arith), ne-eqb q 1 (λ e. omega arith), ne-eqb q 2 (λ e. omega arith))
+-- the level, minus the level and zero, as the code makes them
+abbrev four : Float → Float → Float → List Float
+four x y z = x ∷ z ∷ z ∷ x ∷ y ∷ z ∷ z ∷ y ∷ []
 
-imaginary-minus : (a p : ℕ) → 2 < p → pairOf a p .1 ≡ negℤ (pos a)
-unfolding pairOf
-imaginary-minus a p h = simp (ne-eqb p 0 (λ e. omega arith), ne-eqb p 1 (λ e. omega arith), ne-eqb p 2 (λ e. omega arith))
+pub four-powers : (a : ℕ) → 1 ≤ a → a ≤ 2047
+    → four (ofInt binary32 (pos a)) (neg (ofInt binary32 (pos a))) (ofBits binary32 0) ≡ floatsOf a (0 ∷ 1 ∷ 2 ∷ 3 ∷ [])
+unfolding floatsOf realOf imaginaryOf f32Of pairOf
+four-powers a low high =
+    ap (λ (y : Float). four (ofInt binary32 (pos a)) y (ofBits binary32 0)) (whole-negated binary32 a low (omega arith))
+    ∙ ap (λ (z : Float). four (ofInt binary32 (pos a)) (ofInt binary32 (negℤ (pos a))) z) (zero-plain .0)
 
-imaginary-zero : (a p : ℕ) → (p ≡ 1 → ⊥) → p ≤ 2 → pairOf a p .1 ≡ pos 0
-unfolding pairOf
-imaginary-zero a zero x y = refl
-imaginary-zero a (suc zero) x y = absurd (x refl)
-imaginary-zero a (suc (suc zero)) x y = refl
-imaginary-zero a (suc (suc (suc p))) x y = absurd (omega arith)
+-- chip p of the four is that of power p
+pub of-four : (a p : ℕ) → p < 4 → (chipIn (floatsOf a (0 ∷ 1 ∷ 2 ∷ 3 ∷ [])) p .re ≡ realOf a p) × (chipIn (floatsOf a (0 ∷ 1 ∷ 2 ∷ 3 ∷ [])) p .im ≡ imaginaryOf a p)
+unfolding chipIn floatsOf
+of-four a zero h = (refl, refl)
+of-four a (suc zero) h = (refl, refl)
+of-four a (suc (suc zero)) h = (refl, refl)
+of-four a (suc (suc (suc zero))) h = (refl, refl)
+of-four a (suc (suc (suc (suc p)))) h = absurd (omega arith)
 
--- the floats of each, as the code makes them
-module _ (a p : ℕ) (low : 1 ≤ a) (high : a ≤ 2047) where
-  minus-level : neg (ofInt binary32 (pos a)) ≡ ofInt binary32 (negℤ (pos a))
-  minus-level = whole-negated binary32 a low (omega arith)
+-- what is taken out of them
+module _ (a p : ℕ) (row : List Float) (c : ComplexChip) (made : row ≡ floatsOf a (0 ∷ 1 ∷ 2 ∷ 3 ∷ [])) (taken : c ≡ chipIn row p) (h : p < 4) where
+  pub taken-real : c .re ≡ realOf a p
+  taken-real = ap (λ (d : ComplexChip). d .re) taken ∙ ap (λ (l : List Float). chipIn l p .re) made ∙ of-four a p h .0
 
-  pub real-0 : p ≡ 0 → ofInt binary32 (pos a) ≡ realOf a p
-  unfolding realOf f32Of pairOf
-  real-0 e = ap (λ (k : ℕ). realOf a k) (sym e)
+  pub taken-imaginary : c .im ≡ imaginaryOf a p
+  taken-imaginary = ap (λ (d : ComplexChip). d .im) taken ∙ ap (λ (l : List Float). chipIn l p .im) made ∙ of-four a p h .1
 
-  pub real-2 : p ≡ 2 → neg (ofInt binary32 (pos a)) ≡ realOf a p
-  unfolding realOf f32Of pairOf
-  real-2 e = minus-level ∙ ap (λ (k : ℕ). realOf a k) (sym e)
-
-  pub real-else : (p ≡ 0 → ⊥) → (p ≡ 2 → ⊥) → ofBits binary32 0 ≡ realOf a p
-  unfolding realOf f32Of
-  real-else x y = zero-plain .0 ∙ ap (ofInt binary32) (sym (real-zero a p x y))
-
-  pub imaginary-1 : p ≡ 1 → ofInt binary32 (pos a) ≡ imaginaryOf a p
-  unfolding imaginaryOf f32Of pairOf
-  imaginary-1 e = ap (λ (k : ℕ). imaginaryOf a k) (sym e)
-
-  pub imaginary-3 : 2 < p → neg (ofInt binary32 (pos a)) ≡ imaginaryOf a p
-  unfolding imaginaryOf f32Of
-  imaginary-3 h = minus-level ∙ ap (ofInt binary32) (sym (imaginary-minus a p h))
-
-  pub imaginary-else : (p ≡ 1 → ⊥) → p ≤ 2 → ofBits binary32 0 ≡ imaginaryOf a p
-  unfolding imaginaryOf f32Of
-  imaginary-else x y = zero-plain .0 ∙ ap (ofInt binary32) (sym (imaginary-zero a p x y))
-
--- both parts
-pub both-parts : (a p : ℕ) (x y : Float) → x ≡ realOf a p → y ≡ imaginaryOf a p → _≡_ {A = ComplexChip} (record { re = x; im = y }) (chipAt a p)
-unfolding chipAt
-both-parts a p x y e f = λ j. record { re = e j; im = f j }
-
--- and each of them again
-pub real-of-chip : (a p : ℕ) (c : ComplexChip) → c ≡ chipAt a p → c .re ≡ realOf a p
-unfolding chipAt
-real-of-chip a p c e = ap (λ (d : ComplexChip). d .re) e
-
-pub imaginary-of-chip : (a p : ℕ) (c : ComplexChip) → c ≡ chipAt a p → c .im ≡ imaginaryOf a p
-unfolding chipAt
-imaginary-of-chip a p c e = ap (λ (d : ComplexChip). d .im) e
+-- "its power of j, 0 to 3"
+pub element-below : (P : ℕ) (row : List ℕ) (i : ℕ) → element P row i < 4
+unfolding element basic turned
+element-below P row i = by (eqb (bitAt row ((i - 1) % P + 1 - 1)) 1) ((i - 1) % P + 1)
+  where
+    by : (b : Bool) (k : ℕ) → cond b (k % 4) ((k + 2) % 4) < 4
+    by true k = mod-lt k (lit≤ tt)
+    by false k = mod-lt (k + 2) (lit≤ tt)

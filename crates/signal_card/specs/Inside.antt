@@ -1,9 +1,11 @@
 -- What a private function promises. No reader of a public promise has to believe it.
 -- Assumes nothing.
-use Prim.Native.Nat.{ℕ}
+use mathlib.Core.List.{List}
+use Prim.Native.Nat.{ℕ, _+_, _*_}
+use lib.ListN.{getD}
+use lib.Ieee.{Float, nan}
 use Rattle.signal_card.specs.declared.ComplexChip.{ComplexChip}
-use Rattle.signal_card.specs.SignalCard.{realOf, imaginaryOf}
 
--- both parts, as the struct
-unfoldable pub chipAt : ℕ → ℕ → ComplexChip
-chipAt a power = record { re = realOf a power; im = imaginaryOf a power }
+-- chip k of a row of chips, counted from 0, as the struct
+unfoldable pub chipIn : List Float → ℕ → ComplexChip
+chipIn row k = record { re = getD row (2 * k) nan; im = getD row (2 * k + 1) nan }

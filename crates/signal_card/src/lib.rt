@@ -1,13 +1,13 @@
 // Chips for the signal card (document 02, C-12): any chip of any user as two f32 numbers at a chosen level, and a whole midamble into a lent row of them.
 ghost use mathlib.Core.Path.{_≡_};
 ghost use mathlib.Core.List.{_++_, [], _∷_};
-ghost use Prim.Native.Nat.{_+_, _*_, _≤_};
-ghost use lib.ListN.{length, take, drop};
+ghost use Prim.Native.Nat.{ℕ, _*_, _<_, _≤_};
+ghost use lib.ListN.{length, take, drop, getD};
 ghost use Rattle.conditions.specs.Conditions.{badLevel};
 ghost use Rattle.refusals.specs.Refusals.{_leaving_, firstOf, answer};
 ghost use Rattle.signal_card.specs.SignalCard.{realOf, imaginaryOf, floatsOf};
 ghost use Rattle.signal_card.specs.Calls.{pairAnswer, pairsOutcome, saidPair, saidPairs};
-ghost use Rattle.signal_card.specs.Inside.{chipAt};
+ghost use Rattle.signal_card.specs.Inside.{chipIn};
 use midambles::ChipAnswer;
 
 // One complex chip at a level: its real part and its imaginary part.
@@ -28,53 +28,39 @@ pub enum PairsAnswer {
     Written(u32),
 }
 
-// The real part of a chip by its power of j: the level at power 0, minus the level at 2, and plain zero at 1 and 3.
-fn real_part(level: u32, power: u8) -> f32
+// The chips of powers 0, 1, 2 and 3 at a level: (a, 0), (0, a), (-a, 0), (0, -a), with plain zero.
+fn four_chips(level: u32) -> [f32; 8]
     requires { ⌜ (1 ≤ level) × (level ≤ 2047) ⌝ }
-    ensures { λ r. ⌜ r ≡ realOf level power ⌝ }
+    ensures { λ r. ⌜ r ≡ floatsOf level (0 ∷ 1 ∷ 2 ∷ 3 ∷ []) ⌝ }
 {
-    if power == 0 {
-        return level as f32;
-    }
-    if power == 2 {
-        return -(level as f32);
-    }
-    0.0 // at 1 and 3
+    let a = level as f32;
+    let minus = -a;
+    [a, 0.0, 0.0, a, minus, 0.0, 0.0, minus]
 }
 
-// The imaginary part: the level at power 1, minus the level at 3, and plain zero at 0 and 2.
-fn imaginary_part(level: u32, power: u8) -> f32
-    requires { ⌜ (1 ≤ level) × (level ≤ 2047) ⌝ }
-    ensures { λ r. ⌜ r ≡ imaginaryOf level power ⌝ }
+// The chip of a power of j, out of those four.
+fn chip_of(four: &[f32; 8], power: u8) -> ComplexChip
+    requires { ⌜ power < 4 ⌝ }
+    ensures { λ r. ⌜ r ≡ chipIn (now (four .entry)) power ⌝ }
 {
-    if power == 1 {
-        return level as f32;
+    let p = 2 * power as usize;
+    ComplexChip {
+        re: four[p],
+        im: four[p + 1],
     }
-    if power > 2 {
-        return -(level as f32);
-    }
-    0.0 // at 0 and 2
-}
-
-// A chip at a level, by its power of j.
-fn chip_at(level: u32, power: u8) -> ComplexChip
-    requires { ⌜ (1 ≤ level) × (level ≤ 2047) ⌝ }
-    ensures { λ r. ⌜ r ≡ chipAt level power ⌝ }
-{
-    let re = real_part(level, power);
-    let im = imaginary_part(level, power);
-    ComplexChip { re, im }
 }
 
 // The first `count` of these chips at a level, into the first places of `out`: real then imaginary, chip after chip.
 fn fill(chips: &[u8], count: usize, level: u32, out: &mut [f32])
     requires { ⌜ (1 ≤ level) × (level ≤ 2047) ⌝ }
     requires { ⌜ (count ≤ 512) × (count ≤ length (now chips)) × (2 * count ≤ length (now out)) ⌝ }
+    requires { ⌜ ((k : ℕ) → k < count → getD (now chips) k 0 < 4) ⌝ }
     ensures { λ _. ⌜ now (out .exit) ≡ floatsOf level (take count (now (chips .entry))) ++ drop (2 * count) (now (out .entry)) ⌝ }
 {
+    let four = four_chips(level);
     let mut i: usize = 0;
     while i < count {
-        let c = chip_at(level, chips[i]);
+        let c = chip_of(&four, chips[i]);
         out[2 * i] = c.re;
         out[2 * i + 1] = c.im;
         i += 1;
@@ -83,12 +69,14 @@ fn fill(chips: &[u8], count: usize, level: u32, out: &mut [f32])
 
 // A chip whose power of j is known, at any level: 22, or its pair.
 fn at_any_level(power: u8, level: u32) -> PairAnswer
+    requires { ⌜ power < 4 ⌝ }
     ensures { λ r. ⌜ saidPair r ≡ answer (firstOf ((22, badLevel level) ∷ [])) (realOf level power, imaginaryOf level power) ⌝ }
 {
     if conditions::bad_level(level) {
         return PairAnswer::Refused(22);
     }
-    PairAnswer::Pair(chip_at(level, power))
+    let four = four_chips(level);
+    PairAnswer::Pair(chip_of(&four, power))
 }
 
 // Chip `chip` (from 1) of a user's midamble at a level, as a pair. Refusals: 1, 2, 3, 4, 10, 22.

@@ -3,7 +3,7 @@
 use mathlib.Core.Path.{_≡_, sym, ap, _∙_}
 use borrow.Author.Needs.{needs}
 use Rattle.midambles.specs.Calls.{saidChip}
-use Rattle.signal_card.proofs.Answers.{pair-refused, pair-answered}
+use Rattle.signal_card.proofs.Answers.{pair-refused, power-below, pair-answered}
 use Rattle.signal_card.proofs.pair.Statement.{statement}
 use Rattle.signal_card.proofs.pair.Tie as tie
 
@@ -17,7 +17,7 @@ enum-known-p : tie.Need-enum-known-p
 enum-known-p c = search needs
 
 at-any-level-requires : tie.Need-at-any-level-requires
-at-any-level-requires c κs = search needs
+at-any-level-requires c κs = power-below _ _ _ _ _ (c .before .before .before .before .args .level) _ (ap saidChip (sym (c .before .p .given .1)) ∙ c .before .before .before .midamble-chip .ensures)
 
 returns : tie.Need-returns
 returns c = pair-refused _ _ _ _ _ _ _ (ap saidChip (sym (c .before .n .given .1)) ∙ c .before .before .before .midamble-chip .ensures)

@@ -10,7 +10,7 @@ use Rattle.codes.specs.declared.Code.{Code}
 use Rattle.codes.specs.Codes.{codeOf}
 use Rattle.codes.proofs.Numbers.{length-high, shift-low}
 use Rattle.midambles.proofs.Passed.{Passed}
-use Rattle.signal_card.proofs.Answers.{pairs-refused, pairs-passed, pairs-room, pairs-level, pairs-written, run-room}
+use Rattle.signal_card.proofs.Answers.{pairs-refused, pairs-passed, pairs-room, pairs-level, pairs-written, filled-below, run-room}
 use Rattle.signal_card.proofs.pairs.Statement.{statement}
 use Rattle.signal_card.proofs.pairs.Tie as tie
 
@@ -57,7 +57,8 @@ fill-requires c κs =
     let burst = d .before .before .before .before .before .before .before .args .burst in
     let same = length-is d in
     let chips = run-room _ _ _ _ (c .before .before .before .fill-chips .ensures) in
-    (level-fits d, (omega (arith, same, length-high burst), omega (arith, same, chips), omega (arith, same, row-fits d)))
+    let powers = filled-below _ _ _ _ _ _ (c .before .before .before .fill-chips .ensures) in
+    (level-fits d, ((omega (arith, same, length-high burst), omega (arith, same, chips), omega (arith, same, row-fits d)), (λ k h. powers k (omega (arith, same, h)))))
 
 mul-t27 : tie.Need-mul-t27
 mul-t27 c =

@@ -1,12 +1,14 @@
-"""The Python module beside what it says: threads, copies, pickles, wrong arguments, where the library is found, its version.
+"""The Python module beside what it says: rows of floats, threads, copies, pickles, wrong arguments, where the library is found, its version.
 
     MQARBSET_LIBRARY=.. PYTHONPATH=python python3 checks/python.py TEMPORARY-FOLDER
 
 checks/run calls it. Says what does not hold and ends with 1, or says how much was tried.
 """
+import array
 import concurrent.futures
 import copy
 import inspect
+import math
 import multiprocessing
 import os
 import pathlib
@@ -91,7 +93,7 @@ def arguments():
         holds(f'page refuses settings of {wrong!r} by name', 'settings' in str(raised(TypeError, page, 1, 4, wrong)))
         holds(f'read_page refuses bits of {wrong!r} by name', 'bits' in str(raised(TypeError, mqarbset.read_page, 1, 4, wrong)))
     numbers = {
-        mqarbset.refusal_text: 1, mqarbset.midamble_chip: 5, mqarbset.midamble: 4, mqarbset.parts: 5, mqarbset.beacon: 2, mqarbset.indicator: 4,
+        mqarbset.refusal_text: 1, mqarbset.midamble_chip: 5, mqarbset.midamble: 4, mqarbset.pair: 6, mqarbset.pairs: 5, mqarbset.parts: 5, mqarbset.beacon: 2, mqarbset.indicator: 4,
         mqarbset.owner: 3, book.open: 6, book.book: 9, book.cancel: 4, book.close: 1, book.list: 1,
     }
     for call, count in numbers.items():
@@ -106,6 +108,25 @@ def arguments():
         holds(f'seat {huge} is refused with 13', raised(Refused, book.close, huge).number == 13)
         holds(f'number {huge} is refused with 10', raised(Refused, mqarbset.indicator, 1, 4, 1, huge).number == 10)
     holds('a bytearray and a memoryview are bytes', page(1, 4, bytearray(30)) == page(1, 4, memoryview(bytes(30))) == page(1, 4, bytes(30)))
+
+
+def floats():
+    """The row of pairs beside the pairs and the chips, and levels on both sides of the rule."""
+    turned = ((1, 0), (0, 1), (-1, 0), (0, -1))
+    for burst, count, user, chips in ((1, 16, 9, 512), (2, 6, 5, 256), (3, 8, 1, 512)):
+        for level in (1, 3, 2047):
+            row = mqarbset.pairs(17, burst, count, user, level)
+            holds('a row is an array of floats', type(row) is array.array and row.typecode == 'f' and len(row) == 2 * chips)
+            wanted = [(level * re, level * im) for re, im in (turned[power] for power in mqarbset.midamble(17, burst, count, user))]
+            holds('a row has the chips at the level', list(zip(row[::2], row[1::2])) == wanted)
+            holds('no zero is a minus zero', all(math.copysign(1, x) == 1 for x in row if x == 0))
+            for i in (1, 2, 100, chips):
+                pair = mqarbset.pair(17, burst, count, user, i, level)
+                holds('one pair is that of the row', pair == wanted[i - 1] and all(type(x) is float for x in pair))
+    for level in (0, 2048, 2 ** 32, -1):
+        holds(f'level {level} is refused with 22', raised(Refused, mqarbset.pair, 0, 1, 8, 1, 1, level).number == 22)
+        holds(f'level {level} is refused with 22', raised(Refused, mqarbset.pairs, 0, 1, 8, 1, level).number == 22)
+    holds('22 is last in order', raised(Refused, mqarbset.pair, 0, 1, 8, 1, 513, 0).number == 10 and raised(Refused, mqarbset.pairs, 0, 1, 8, 9, 0).number == 4)
 
 
 def books():
@@ -156,6 +177,6 @@ def found():
 
 
 if __name__ == '__main__':
-    for part in (arguments, books, pickles, threads, found):
+    for part in (arguments, floats, books, pickles, threads, found):
         part()
     print(f'python: {tried} things tried of the module, all as it says')

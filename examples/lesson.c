@@ -1,4 +1,4 @@
-/* A lesson over the C interface: a midamble, the parts of a timeslot, the class book and what is kept of it, and refusals with their words.
+/* A lesson over the C interface: a midamble, its chips for the signal card, the parts of a timeslot, the class book and what is kept of it, and refusals with their words.
  *   cc -std=c99 -Iinclude examples/lesson.c target/staticlib/libmqarbset.a -o lesson */
 #include <mqarbset.h>
 #include <stdio.h>
@@ -25,6 +25,23 @@ static void midamble(void)
     printf("\n");
     answer = mq_midamble(0, 1, 8, 9, chips, sizeof chips);
     refused("user 9 of 8", answer.refusal);
+}
+
+static void signal_card(void)
+{
+    float row[MQ_LONG_PAIRS];
+    mq_pair_answer chip = mq_pair(0, 1, 8, 8, 4, 1000);
+    mq_answer answer = mq_pairs(0, 1, 8, 8, 1000, row, MQ_LONG_PAIRS);
+    int i;
+    if (chip.refusal != 0 || answer.refusal != 0) {
+        refused("signal card", chip.refusal != 0 ? chip.refusal : answer.refusal);
+        return;
+    }
+    printf("chip 4 at level 1000: %g and %g; the whole row: %u floats, the first", chip.re, chip.im, (unsigned)answer.value);
+    for (i = 0; i < 8; i++)
+        printf(" %g", row[i]);
+    printf("\n");
+    refused("level 2048", mq_pairs(0, 1, 8, 8, MQ_LEVEL_LIMIT + 1, row, MQ_LONG_PAIRS).refusal);
 }
 
 static void timeslot(void)
@@ -151,6 +168,7 @@ static void class_book(void)
 int main(void)
 {
     midamble();
+    signal_card();
     timeslot();
     paging();
     class_book();

@@ -1,4 +1,4 @@
-"""A lesson over the Python module: a midamble, the parts of a timeslot, the class book, and refusals with their words.
+"""A lesson over the Python module: a midamble, its chips for the signal card, the parts of a timeslot, the class book, and refusals with their words.
 
     PYTHONPATH=python python3 examples/lesson.py      after examples/run, which builds the library
 """
@@ -42,6 +42,10 @@ def questions():
     tried('midamble of cell 0, type 1, user 8 of 8, the first chips', lambda: list(mqarbset.midamble(0, 1, 8, 8)[:8]))
     tried('user 9 of 8', mqarbset.midamble, 0, 1, 8, 9)
     tried('chip 1', mqarbset.midamble_chip, 0, 1, 8, 8, 1)
+
+    tried('chip 4 for the signal card at level 1000', mqarbset.pair, 0, 1, 8, 8, 4, 1000)
+    tried('the first four chips at level 1000', lambda: mqarbset.pairs(0, 1, 8, 8, 1000)[:8])
+    tried('level 2048', mqarbset.pairs, 0, 1, 8, 8, 2048)
 
     print('uplink type 1, factor 8, TFCI 16, TPC 2:')
     parts = mqarbset.parts(1, UP, 8, 16, 2)

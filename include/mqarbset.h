@@ -1,7 +1,8 @@
-/* mqarbset: midambles, timeslot parts, beacon timeslots, paging bits and the class book of the 3.84 Mcps option of 3GPP TS 25.221.
+/* mqarbset: midambles, chips for the signal card, timeslot parts, beacon timeslots, paging bits and the class book of the 3.84 Mcps option of
+ * 3GPP TS 25.221.
  *
  * Every call here is proved against its definition (crates/mqarbset): for all numbers, all bytes and all lengths of lent memory it answers as
- * document 01 says, mended by document 02, or refuses with document 01's number, and a refused call leaves the book and all lent memory as they
+ * documents 01 and 02 say, or refuses with their number, and a refused call leaves the book and all lent memory as they
  * were. The few lines of C in this header, the functions marked `static inline`, are not part of the proof.
  *
  * Numbers are uint32_t, and any value may be handed in. A refusal is one of enum mq_refusal; 0 is none. If several apply, the lowest is given,
@@ -37,10 +38,10 @@ extern "C" {
 /* ---- version ---------------------------------------------------------------------------------------------------------------------------- */
 
 #define MQ_VERSION_MAJOR 0
-#define MQ_VERSION_MINOR 3
+#define MQ_VERSION_MINOR 4
 #define MQ_VERSION_PATCH 0
-#define MQ_VERSION 300          /* major times 10000, minor times 100, patch */
-#define MQ_ABI 1                /* libmqarbset.so.MQ_ABI; it changes when the book's size or a call's parameters do */
+#define MQ_VERSION 400          /* major times 10000, minor times 100, patch */
+#define MQ_ABI 1                /* libmqarbset.so.MQ_ABI; it changes when the book's size or a call that is there does; a new call alone does not move it */
 
 /* The library that runs, beside the header that a program was compiled with: MQ_VERSION there, and the bytes of a book there. A program that is
  * linked with another mq_book_bytes() than MQ_BOOK_BYTES must not hand over a book. Stack: 1 KB. */
@@ -54,6 +55,9 @@ MQ_MUST_USE uint32_t mq_book_bytes(void);
 #define MQ_CHIPS 2560           /* chips of a timeslot, 0 to 2559 */
 #define MQ_LONG_MIDAMBLE 512    /* chips of a midamble, types 1 and 3 */
 #define MQ_SHORT_MIDAMBLE 256   /* and type 2 */
+#define MQ_LONG_PAIRS 1024      /* floats of a midamble's chips as pairs, types 1 and 3 */
+#define MQ_SHORT_PAIRS 512      /* and type 2 */
+#define MQ_LEVEL_LIMIT 2047     /* the highest level of a chip; the lowest is 1 */
 #define MQ_PARTS 7              /* parts of a timeslot */
 #define MQ_PAGE_BITS_1 244      /* paging bits of a burst, type 1: 240 carrying and 4 reserved */
 #define MQ_PAGE_BITS_2 276      /* and type 2: 272 and 4 */
@@ -91,7 +95,7 @@ enum mq_reading {
 
 /* ---- refusals --------------------------------------------------------------------------------------------------------------------------- */
 
-/* Each with document 01's words, as mq_refusal_text gives them; what this interface adds stands behind a bar. */
+/* Each with its words, document 01's for 1 to 21, as mq_refusal_text gives them; what this interface adds stands behind a bar. */
 enum mq_refusal {
     MQ_REFUSED_NONE = 0,
     MQ_REFUSED_CELL = 1,        /* cell parameter above 127 */
@@ -117,7 +121,8 @@ enum mq_refusal {
     MQ_REFUSED_BEACON = 18,     /* beacon rule */
     MQ_REFUSED_FULL = 19,       /* seat holds 40 */
     MQ_REFUSED_ROOM = 20,       /* common room used up */
-    MQ_REFUSED_NONE_SUCH = 21   /* no such booking */
+    MQ_REFUSED_NONE_SUCH = 21,  /* no such booking */
+    MQ_REFUSED_LEVEL = 22       /* level not 1 to 2047 */
 };
 
 /* A number as an answer: the refusal, or 0; and the value. */
@@ -126,7 +131,7 @@ typedef struct mq_answer {
     uint32_t value;
 } mq_answer;
 
-/* The words of a refusal, exactly document 01's, as ASCII without a NUL, into the first places of `out`.
+/* The words of a refusal, exactly those of enum mq_refusal, as ASCII without a NUL, into the first places of `out`.
  *   number   any; a number that is no refusal's has no words
  *   out      `length` bytes; further bytes stay as they were
  * Value: how many bytes were written, 0 where there are no words. Refusal: 11. Stack: 2 KB. */
@@ -155,6 +160,26 @@ MQ_MUST_USE mq_answer mq_midamble_chip(uint32_t cell, uint32_t burst, uint32_t c
  *   out      at least 512 bytes, or 256 for type 2; further bytes stay as they were
  * Value: how many bytes were written, 512 or 256. Refusals: 1, 2, 3, 4, 11. Stack: 9 KB. */
 MQ_MUST_USE mq_answer mq_midamble(uint32_t cell, uint32_t burst, uint32_t count, uint32_t user, unsigned char *out, size_t length);
+
+/* ---- chips for the signal card ---------------------------------------------------------------------------------------------------------- */
+
+/* A complex chip at a level: its real part and its imaginary part. With a for the level, the chips of powers 0, 1, 2 and 3 are (a, 0), (0, a),
+ * (-a, 0) and (0, -a). Both are whole numbers, nothing is rounded, and zero is plain zero, never minus zero; refused, both are zero. */
+typedef struct mq_pair_answer {
+    uint32_t refusal;
+    float re;
+    float im;
+} mq_pair_answer;
+
+/* One chip of a user's midamble at a level.
+ *   level    a whole number, 1 to MQ_LEVEL_LIMIT; the others as for mq_midamble_chip
+ * Refusals: 1, 2, 3, 4, 10, 22. Stack: 9 KB. */
+MQ_MUST_USE mq_pair_answer mq_pair(uint32_t cell, uint32_t burst, uint32_t count, uint32_t user, uint32_t chip, uint32_t level);
+
+/* All chips of a user's midamble at a level, real part then imaginary part, chip after chip from chip 1 on.
+ *   out      `length` floats, at least MQ_LONG_PAIRS, or MQ_SHORT_PAIRS for type 2; further floats stay as they were, to the bit
+ * Value: how many floats were written, 1024 or 512. Refusals: 1, 2, 3, 4, 11, 22. Stack: 10 KB. */
+MQ_MUST_USE mq_answer mq_pairs(uint32_t cell, uint32_t burst, uint32_t count, uint32_t user, uint32_t level, float *out, size_t length);
 
 /* ---- timeslots -------------------------------------------------------------------------------------------------------------------------- */
 

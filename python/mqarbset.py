@@ -1,8 +1,8 @@
-"""mqarbset for Python: midambles, timeslot parts, beacon timeslots, paging bits and the class book
-of the 3.84 Mcps option of 3GPP TS 25.221.
+"""mqarbset for Python: midambles, chips for the signal card, timeslot parts, beacon timeslots, paging
+bits and the class book of the 3.84 Mcps option of 3GPP TS 25.221.
 
 Over the C interface (include/mqarbset.h), with ctypes of the standard library only. A call that is
-refused raises Refused, which has document 01's number and words; the book is then as it was. Whole
+refused raises Refused, which has the refusal's number and words; the book is then as it was. Whole
 numbers of any size may be handed in, and the library refuses what it must; what is no whole number,
 or no bytes where bytes are expected, is a TypeError that names the parameter. The library does all
 the work and is proved; this module is not.
@@ -10,6 +10,7 @@ the work and is proved; this module is not.
 The shared library is the one that MQARBSET_LIBRARY names, or the one that install.sh installed with
 this file, or, in a checkout, the one that examples/run built; no other is looked for.
 """
+import array
 import ctypes
 import enum
 import operator
@@ -20,14 +21,14 @@ from typing import Dict, List, NamedTuple, Optional, Tuple
 
 __all__ = [
     'UP', 'DOWN', 'OFF', 'ON', 'TORN', 'Part', 'Span', 'Parts', 'Place', 'Indicator', 'Booking', 'Book', 'Refused',
-    'refusal_text', 'midamble_chip', 'midamble', 'parts', 'at', 'beacon', 'indicator', 'owner', 'page', 'read_page',
+    'refusal_text', 'midamble_chip', 'midamble', 'pair', 'pairs', 'parts', 'at', 'beacon', 'indicator', 'owner', 'page', 'read_page',
 ]
-__version__ = '0.3.0'
+__version__ = '0.4.0'
 
 UP, DOWN = 0, 1
 OFF, ON, TORN = 0, 1, 2
 
-_LONG_MIDAMBLE, _PAGE_BYTES, _INDICATORS = 512, 276, 68
+_LONG_MIDAMBLE, _LONG_PAIRS, _PAGE_BYTES, _INDICATORS = 512, 1024, 276, 68
 _SEATS, _LIST_RECORDS, _RECORD_BYTES, _BOOK_BYTES, _TEXT_BYTES = 16, 40, 8, 5232, 255
 _LARGEST = 2 ** 32 - 1
 _INSTALLED = None  # install.sh writes the library's path here
@@ -45,7 +46,7 @@ class Part(enum.IntEnum):
 
 
 class Refused(Exception):
-    """A refused call: `number` is document 01's, `words` are its words."""
+    """A refused call: `number` is document 01's or 02's, `words` are its words."""
 
     def __init__(self, number: int) -> None:
         super().__init__(number)
@@ -114,6 +115,7 @@ def _numbers(name, *names):
 _Book = _struct('_Book', ('inside', ctypes.c_ubyte * _BOOK_BYTES))
 _BookAnswer = _struct('_BookAnswer', ('refusal', ctypes.c_uint32), ('book', _Book))
 _Answer = _numbers('_Answer', 'refusal', 'value')
+_PairAnswer = _struct('_PairAnswer', ('refusal', ctypes.c_uint32), ('re', ctypes.c_float), ('im', ctypes.c_float))
 _PartsAnswer = _struct('_PartsAnswer', ('refusal', ctypes.c_uint32), ('start', ctypes.c_uint32 * 7),
                        ('length', ctypes.c_uint32 * 7), ('bits', ctypes.c_uint32 * 2))
 _Place = _numbers('_Place', 'refusal', 'part', 'number')
@@ -121,13 +123,16 @@ _Beacons = _numbers('_Beacons', 'refusal', 'count', 'first', 'second')
 _Indicator = _numbers('_Indicator', 'refusal', 'frame', 'q', 'first', 'second', 'length')
 _Owner = _numbers('_Owner', 'refusal', 'reserved', 'q')
 
-# What each function takes and gives: u a number, m lent memory (a pointer and its length), b a book.
+# What each function takes and gives: u a number, m lent memory (a pointer and its length), f a lent row of floats
+# (likewise, its length in floats), b a book.
 _CALLS = {
     'mq_version': ('', ctypes.c_uint32),
     'mq_book_bytes': ('', ctypes.c_uint32),
     'mq_refusal_text': ('um', _Answer),
     'mq_midamble_chip': ('uuuuu', _Answer),
     'mq_midamble': ('uuuum', _Answer),
+    'mq_pair': ('uuuuuu', _PairAnswer),
+    'mq_pairs': ('uuuuuf', _Answer),
     'mq_parts': ('uuuuu', _PartsAnswer),
     'mq_at': ('uuuuuu', _Place),
     'mq_beacon': ('uu', _Beacons),
@@ -142,7 +147,8 @@ _CALLS = {
     'mq_close_value': ('bu', _BookAnswer),
     'mq_list_bytes': ('bum', _Answer),
 }
-_TYPES = {'u': [ctypes.c_uint32], 'm': [ctypes.c_char_p, ctypes.c_size_t], 'b': [_Book]}
+_TYPES = {'u': [ctypes.c_uint32], 'm': [ctypes.c_char_p, ctypes.c_size_t],
+          'f': [ctypes.POINTER(ctypes.c_float), ctypes.c_size_t], 'b': [_Book]}
 
 
 def _path() -> str:
@@ -181,9 +187,9 @@ _library = _loaded()
 class _Lent:
     """Memory that is lent to a call: to read, or room to write in."""
 
-    def __init__(self, buffer, size):
+    def __init__(self, buffer, size, kind=ctypes.c_char_p):
         self.kept = buffer  # alive as long as its address is in use
-        self.passed = [ctypes.cast(buffer, ctypes.c_char_p), size]
+        self.passed = [ctypes.cast(buffer, kind), size]
 
 
 def _number(name, value):
@@ -227,7 +233,7 @@ def _written(call, room, *book, size=1, **numbers):
 # ---- the calls
 
 def refusal_text(number: int) -> str:
-    """Document 01's words for a refusal's number; '' for a number that is no refusal's."""
+    """The words of a refusal's number; '' for a number that is no refusal's."""
     return _written('mq_refusal_text', _TEXT_BYTES, number=number).decode('ascii')
 
 
@@ -247,6 +253,28 @@ def midamble(cell: int, burst: int, count: int, user: int) -> bytes:
     1, 2, 3, 4.
     """
     return _written('mq_midamble', _LONG_MIDAMBLE, cell=cell, burst=burst, count=count, user=user)
+
+
+def pair(cell: int, burst: int, count: int, user: int, chip: int, level: int) -> Tuple[float, float]:
+    """One chip of a user's midamble for the signal card: its real and its imaginary part at a level.
+
+    level a whole number, 1 to 2047; the others as for midamble_chip. Powers 0, 1, 2 and 3 are (level, 0.0),
+    (0.0, level), (-level, 0.0) and (0.0, -level), and zero is never -0.0. Refused with 1, 2, 3, 4, 10, 22.
+    """
+    a = _call('mq_pair', cell=cell, burst=burst, count=count, user=user, chip=chip, level=level)
+    return a.re, a.im
+
+
+def pairs(cell: int, burst: int, count: int, user: int, level: int) -> 'array.array[float]':
+    """All chips of a user's midamble at a level, real part then imaginary part, chip after chip: an array
+    of the type code 'f' (of the standard library) with 1024 floats, or 512 for type 2.
+
+    level as for pair; the others as for midamble. Refused with 1, 2, 3, 4, 22.
+    """
+    out = (ctypes.c_float * _LONG_PAIRS)()
+    lent = _Lent(out, _LONG_PAIRS, ctypes.POINTER(ctypes.c_float))
+    written = _call('mq_pairs', cell=cell, burst=burst, count=count, user=user, level=level, out=lent).value
+    return array.array('f', bytes(out)[:written * ctypes.sizeof(ctypes.c_float)])
 
 
 def parts(burst: int, direction: int, factor: int, tfci: int = 0, tpc: int = 0) -> Parts:

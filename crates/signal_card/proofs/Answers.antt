@@ -1,11 +1,11 @@
 -- What each `return` of the two calls answers, over plain values. Cited by the proofs of at_any_level, pair and pairs.
 -- Assumes nothing.
 use mathlib.Core.Path.{_≡_, refl, sym, ap, _∙_}
-use mathlib.Core.Bool.{Bool, true, false, _||_}
+use mathlib.Core.Bool.{Bool, true, false}
 use mathlib.Core.List.{List, [], _∷_, _++_}
 use Prim.Native.Nat.{ℕ, _+_, _*_, _<_, _≤_}
 use native.Mathlib.Omega.{arith}
-use lib.Dec.{T, ltb}
+use lib.Dec.{ltb}
 use lib.ListN.{length, take, drop, getD, length-append, List·getD-append}
 use lib.Seq.{take-at}
 use lib.Ieee.{Float}
@@ -13,7 +13,7 @@ use borrow.Author.Tests.{ltb-false}
 use Rattle.laws.specs.Runs.{run}
 use Rattle.laws.proofs.Bools.{or-false}
 use Rattle.laws.proofs.Runs.{run-length, run-at}
-use Rattle.refusals.specs.Refusals.{Answer, refused, answered, Refusals, _leaving_, firstOf, answer}
+use Rattle.refusals.specs.Refusals.{refused, answered, Refusals, _leaving_, firstOf, answer}
 use Rattle.refusals.specs.Inside.{orRefused}
 use Rattle.refusals.proofs.First.{numbered, first-holds, first-passes, first-none, append-refused, append-passes, reads-behind, reads-row, reads-all, append-front, answer-given, answer-refusal, refused-by, refused-leaving, answered-by, answered-leaving}
 use Rattle.conditions.specs.Conditions.{badLevel, tooShort}

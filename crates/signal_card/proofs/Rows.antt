@@ -2,11 +2,11 @@
 -- Assumes nothing.
 use mathlib.Core.Path.{_≡_, refl, sym, ap, _∙_}
 use mathlib.Core.List.{List, [], _∷_, _++_}
-use Prim.Native.Nat.{ℕ, zero, suc, _+_, _*_, _≤_, _<_}
+use Prim.Native.Nat.{ℕ, zero, suc, _+_, _*_, _<_}
 use native.Mathlib.Numerals.{add-one}
 use native.Mathlib.Omega.{arith}
-use lib.ListN.{length, take, drop, set, getD, length-append, length-set}
-use lib.Seq.{drop-cons, set-at, append-snoc, take-suc, length-take-le}
+use lib.ListN.{length, take, drop, set, getD}
+use lib.Seq.{drop-cons, take-suc, length-take-le}
 use lib.Ieee.{Float, nan}
 use Rattle.signal_card.specs.SignalCard.{realOf, imaginaryOf, floatsOf}
 

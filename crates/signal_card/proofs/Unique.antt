@@ -3,7 +3,6 @@
 use mathlib.Core.Path.{_≡_, sym, ap, _∙_}
 use denote.Ref.{now}
 use lib.Ieee.{Float}
-use Rattle.refusals.specs.Refusals.{answered}
 use Rattle.refusals.proofs.First.{leaving-parts}
 use Rattle.signal_card.specs.declared.ComplexChip.{ComplexChip}
 use Rattle.signal_card.specs.declared.PairAnswer.{PairAnswer}

@@ -1,6 +1,5 @@
 -- `refusal_words::words_from_22` meets its promise: the text of 22 is that of the definition, by computation, and above it there is none.
 -- Assumes nothing.
-use native.Mathlib.Omega.{arith}
 use borrow.Author.Needs.{needs}
 use Rattle.refusal_words.specs.Words.{wordsOf}
 use Rattle.refusal_words.proofs.Putting.{by-number, beyond, no-words}

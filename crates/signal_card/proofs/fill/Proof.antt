@@ -2,13 +2,12 @@
 -- Assumes nothing.
 use mathlib.Core.Path.{_≡_, refl, ap, _∙_}
 use mathlib.Core.List.{[], _∷_, _++_}
-use Prim.Native.Nat.{ℕ, _+_, _-_, _*_, _≤_, _<_}
+use Prim.Native.Nat.{ℕ, _+_, _-_, _*_, _≤_}
 use native.Mathlib.Nat.{le-antisymm}
 use native.Mathlib.Omega.{arith}
 use lib.ListN.{length, take, drop, set, length-set}
 use denote.Ref.{now}
 use borrow.Author.Needs.{needs}
-use Rattle.signal_card.specs.declared.ComplexChip.{ComplexChip}
 use Rattle.signal_card.specs.SignalCard.{floatsOf}
 use Rattle.signal_card.proofs.Parts.{taken-real, taken-imaginary}
 use Rattle.signal_card.proofs.Rows.{floats-none, floats-turn}

@@ -1,6 +1,6 @@
 -- `signal_card::pair` meets its promise: a chip that is refused is refused here, and of one that is not the level decides.
 -- Assumes nothing.
-use mathlib.Core.Path.{_≡_, sym, ap, _∙_}
+use mathlib.Core.Path.{sym, ap, _∙_}
 use borrow.Author.Needs.{needs}
 use Rattle.midambles.specs.Calls.{saidChip}
 use Rattle.signal_card.proofs.Answers.{pair-refused, power-below, pair-answered}

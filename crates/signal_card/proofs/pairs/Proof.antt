@@ -1,7 +1,7 @@
 -- `signal_card::pairs` meets its promise: each `return` is a law of Answers, handed what the callees ensure and how the test went.
 -- Assumes nothing.
 use mathlib.Core.Path.{_≡_, ap}
-use Prim.Native.Nat.{ℕ, _*_, _≤_}
+use Prim.Native.Nat.{_*_, _≤_}
 use native.Mathlib.Omega.{arith}
 use lib.ListN.{length}
 use denote.Ref.{now}

@@ -1,9 +1,9 @@
 -- Document 02, C-12: "Powers 0, 1, 2, 3 are ..", "so nothing is rounded", "plain zero and not minus
--- zero", and what its two calls say of each other: pair i of a row is the pair of chip i. No
--- function's proof cites it: it is for the reader. Assumes nothing.
+-- zero", and what its two calls say of each other: of a row that was filled, pair i is what chip i
+-- is answered with. No function's proof cites it: it is for the reader. Assumes nothing.
 use mathlib.Core.Path.{_≡_, refl, sym, ap, _∙_}
 use mathlib.Core.Bool.{Bool, true, false, cond}
-use mathlib.Core.List.{List, [], _∷_, map}
+use mathlib.Core.List.{List, [], _∷_, _++_, map}
 use Prim.Native.Nat.{ℕ, zero, suc, _+_, _-_, _*_, _<_, _≤_}
 use native.Mathlib.Omega.{arith}
 use lib.Dec.{eqb, ltb}
@@ -11,12 +11,12 @@ use lib.ListN.{length, getD, drop, List·getD-append}
 use lib.IntN.{ℤ, pos, negℤ, natAbs}
 use lib.Ieee.{Float, nan, fin, binary32}
 use lib.Ieee.Exact.{HasValue}
-use borrow.Author.Tests.{ltb-false}
-use Rattle.laws.proofs.Bools.{or-false}
+use borrow.Author.Tests.{le-ltb}
+use Rattle.laws.proofs.Bools.{or-same}
 use Rattle.laws.proofs.Runs.{run-length, run-at}
 use Rattle.refusals.specs.Refusals.{answered, _leaving_, firstOf}
-use Rattle.refusals.proofs.First.{append-front, append-none, answer-given, leaving-given}
-use Rattle.conditions.specs.Conditions.{badMidambleChip, badLevel}
+use Rattle.refusals.proofs.First.{first-none, first-passes, append-front, append-passes, answer-answered, leaving-given}
+use Rattle.conditions.specs.Conditions.{badMidambleChip, tooShort, badLevel}
 use Rattle.tables.specs.Tables.{userRefusals}
 use Rattle.codes.specs.Codes.{codeOf}
 use Rattle.midambles.specs.TrainingSequences.{chipOf, chipsOf}
@@ -24,7 +24,7 @@ use Rattle.midambles.specs.Calls.{chipRefusals}
 use Rattle.midambles.proofs.Answers.{user-numbered, chip-numbered}
 use Rattle.floats.proofs.Whole.{isMinus, whole-exact, never-minus-zero}
 use Rattle.signal_card.specs.SignalCard.{pairOf, f32Of, realOf, imaginaryOf, floatsOf}
-use Rattle.signal_card.specs.Calls.{pairRefusals, pairAnswer, pairsOutcome}
+use Rattle.signal_card.specs.Calls.{pairRefusals, pairAnswer, pairsRefusals, pairsOutcome}
 use Rattle.signal_card.proofs.Rows.{floats-length}
 
 -- "Powers 0, 1, 2, 3 are (a, 0), (0, a), (-a, 0), (0, -a)"
@@ -82,38 +82,51 @@ floats-at a (p ∷ l) (suc k) h =
       ap (λ (n : ℕ). getD (realOf a p ∷ imaginaryOf a p ∷ floatsOf a l) n nan) odd ∙ rest .1,
     )
 
--- a chip that is answered is a chip of the midamble
-inside : (cell burst count user i a : ℕ) → firstOf (pairRefusals cell burst count user i a) ≡ 0 → (1 ≤ i) × (i ≤ codeOf burst .length)
-unfolding pairRefusals chipRefusals badMidambleChip
-inside cell burst count user i a z =
-    let chip = append-front (chipRefusals cell burst count user i) ((22, badLevel a) ∷ []) (chip-numbered cell burst count user i) z in
-    let bad = append-none (userRefusals cell burst count user) 9 (badMidambleChip (codeOf burst .length) i) (user-numbered cell burst count user) chip .1 in
-    let both = or-false (ltb i 1) (ltb (codeOf burst .length) i) bad in
-    (ltb-false i 1 (both .0), ltb-false (codeOf burst .length) i (both .1))
+-- a row that is filled: its user and its level are good, so every chip of its midamble is answered
+module _ (cell burst count user a n : ℕ) (out left : List Float)
+    (whole : pairsOutcome cell burst count user a out ≡ (answered n leaving left)) (i : ℕ) (low : 1 ≤ i) (high : i ≤ codeOf burst .length) where
+  filled : (firstOf (pairsRefusals cell burst count user a out) ≡ 0) × (floatsOf a (chipsOf cell burst user) ++ drop (2 * codeOf burst .length) out ≡ left)
+  unfolding pairsOutcome
+  filled = let w = leaving-given _ _ _ out _ left whole in (w .0, w .2)
 
-module _ (cell burst count user i a n : ℕ) (out left : List Float) (x y : Float)
-    (one : pairAnswer cell burst count user i a ≡ answered (x, y))
-    (whole : pairsOutcome cell burst count user a out ≡ (answered n leaving left)) where
-  pub row-pair : (getD left (2 * (i - 1)) nan ≡ x) × (getD left (2 * (i - 1) + 1) nan ≡ y)
-  unfolding pairAnswer pairsOutcome chipsOf
-  row-pair =
+  user-good : firstOf (userRefusals cell burst count user) ≡ 0
+  unfolding pairsRefusals
+  user-good = append-front (userRefusals cell burst count user) _ (user-numbered cell burst count user) (filled .0)
+
+  level-good : badLevel a ≡ false
+  unfolding pairsRefusals
+  level-good =
+      let behind = sym (append-passes (userRefusals cell burst count user) _ (user-numbered cell burst count user) user-good) ∙ filled .0 in
+      first-none 21 (badLevel a) [] (first-none 10 (tooShort (2 * codeOf burst .length) out) _ behind .1) .0
+
+  chip-good : badMidambleChip (codeOf burst .length) i ≡ false
+  unfolding badMidambleChip
+  chip-good = or-same (le-ltb i 1 low) (le-ltb (codeOf burst .length) i high)
+
+  none-refused : firstOf (pairRefusals cell burst count user i a) ≡ 0
+  unfolding pairRefusals chipRefusals firstOf
+  none-refused =
+      append-passes (chipRefusals cell burst count user i) _ (chip-numbered cell burst count user i)
+      (append-passes (userRefusals cell burst count user) _ (user-numbered cell burst count user) user-good ∙ first-passes 10 _ [] chip-good)
+      ∙ first-passes 22 _ [] level-good
+
+  -- the two floats of chip i in the row
+  in-row : (getD left (2 * (i - 1)) nan ≡ realOf a (chipOf cell burst user i)) × (getD left (2 * (i - 1) + 1) nan ≡ imaginaryOf a (chipOf cell burst user i))
+  unfolding chipsOf
+  in-row =
       let chips = chipsOf cell burst user in
       let L = codeOf burst .length in
-      let g = answer-given _ _ _ one in
-      let w = leaving-given _ _ _ out _ left whole in
-      let within = inside cell burst count user i a (g .0) in
       let k = i - 1 in
       let size : length chips ≡ L = run-length _ L in
       let long : length (floatsOf a chips) ≡ 2 * length chips = floats-length a chips in
-      let back : k + 1 ≡ i = omega (arith, within .0) in
-      let here : getD chips k 0 ≡ chipOf cell burst user i = run-at _ L k (omega (arith, within .0, within .1)) ∙ ap (λ (j : ℕ). chipOf cell burst user j) back in
-      let two = floats-at a chips k (omega (arith, size, within .0, within .1)) in
-      let first : getD left (2 * k) nan ≡ realOf a (chipOf cell burst user i) =
-      ap (λ (l : List Float). getD l (2 * k) nan) (sym (w .2))
-      ∙ List·getD-append (floatsOf a chips) (drop (2 * L) out) nan (2 * k) (omega (arith, long, size, within .0, within .1))
-      ∙ two .0 ∙ ap (realOf a) here in
-      let second : getD left (2 * k + 1) nan ≡ imaginaryOf a (chipOf cell burst user i) =
-      ap (λ (l : List Float). getD l (2 * k + 1) nan) (sym (w .2))
-      ∙ List·getD-append (floatsOf a chips) (drop (2 * L) out) nan (2 * k + 1) (omega (arith, long, size, within .0, within .1))
-      ∙ two .1 ∙ ap (imaginaryOf a) here in
-      (first ∙ ap (λ (q : Float × Float). q .0) (g .1), second ∙ ap (λ (q : Float × Float). q .1) (g .1))
+      let back : k + 1 ≡ i = omega arith in
+      let here : getD chips k 0 ≡ chipOf cell burst user i = run-at _ L k (omega arith) ∙ ap (λ (j : ℕ). chipOf cell burst user j) back in
+      let two = floats-at a chips k (omega (arith, size)) in
+      let front : (j : ℕ) → j < 2 * L → getD left j nan ≡ getD (floatsOf a chips) j nan =
+      λ j h. ap (λ (l : List Float). getD l j nan) (sym (filled .1)) ∙ List·getD-append (floatsOf a chips) (drop (2 * L) out) nan j (omega (arith, long, size)) in
+      (front (2 * k) (omega arith) ∙ two .0 ∙ ap (realOf a) here, front (2 * k + 1) (omega arith) ∙ two .1 ∙ ap (imaginaryOf a) here)
+
+  -- so chip i by its own call is answered, with these two
+  pub row-pair : pairAnswer cell burst count user i a ≡ answered (getD left (2 * (i - 1)) nan, getD left (2 * (i - 1) + 1) nan)
+  unfolding pairAnswer
+  row-pair = answer-answered _ _ none-refused ∙ ap answered (λ j. (sym (in-row .0) j, sym (in-row .1) j))

@@ -31,7 +31,6 @@ pub fn compare() -> u32 {
 }
 
 fn one(cell: u32, burst: u32, count: u32, user: u32, level: u32) -> u32 {
-    let what = || format!("{cell} {burst} {count} {user} {level}");
     let mut compared = 0;
     for length in [0, 511, 512, 513, 1023, 1024, 1100] {
         let mut a = [f32::from_bits(0x7FA0_1234); 1100];
@@ -39,6 +38,7 @@ fn one(cell: u32, burst: u32, count: u32, user: u32, level: u32) -> u32 {
         let r = library::pairs(cell, burst, count, user, level, &mut a[..length]);
         let s = plain::pairs(cell, burst, count, user, level, &mut b[..length]);
         let t = plain::pairs_at_once(cell, burst, count, user, level, &mut c[..length]);
+        let what = || format!("pairs {cell} {burst} {count} {user} {level}, {length} floats lent");
         same((r, bits(&a)), (s, bits(&b)), what);
         same((r, bits(&a)), (t, bits(&c)), what);
         compared += 1;
@@ -48,7 +48,7 @@ fn one(cell: u32, burst: u32, count: u32, user: u32, level: u32) -> u32 {
         same(
             library::pair(cell, burst, count, user, chip, level),
             plain::pair(cell, burst, count, user, chip, level),
-            what,
+            || format!("pair {cell} {burst} {count} {user} {chip} {level}"),
         );
         compared += 1;
     }
@@ -57,7 +57,7 @@ fn one(cell: u32, burst: u32, count: u32, user: u32, level: u32) -> u32 {
 
 type Pairs = fn(u32, u32, u32, u32, u32, &mut [f32]) -> MqAnswer;
 
-/// All cells and users, each at a level of its own. The row is not cleared between the calls.
+/// All cells and users, at levels that change from one to the next. The row is not cleared between the calls.
 fn whole(what: &'static str, burst: u32, count: u32, plain: Pairs) -> Line {
     let inputs = (0..128).flat_map(|cell| (1..=count).map(move |user| (cell, user))).collect();
     let level = |cell: u32, user: u32| 1 + 15 * cell + user;

@@ -1,4 +1,4 @@
--- Document 01, "Training sequences": the numbers of both codes, and the users' shifts. Cited by the promises of this crate and by midambles.
+-- Document 01, "Training sequences": the numbers of both codes, and the users' shifts. Cited by the promises of this crate, by midambles and by signal_card.
 -- Shifts are defined once, over the numbers of a code; long and short codes only fill them in. Assumes nothing.
 use mathlib.Core.Bool.{cond}
 use Prim.Native.Nat.{ℕ, _+_, _-_, _*_}

@@ -1,5 +1,5 @@
 // Elements read from the tables of the crate code_rows: one, and a whole midamble's. Each function fetches its table once and lends it on.
-// Public for the crate midambles, whose calls have tested the cell and the chip before.
+// Public for the crates midambles and signal_card, whose calls have tested the cell and the chip before.
 ghost use mathlib.Core.Path.{_≡_};
 ghost use mathlib.Core.List.{_++_, []};
 ghost use Prim.Native.Nat.{ℕ, _<_, _≤_, _+_, _*_};
@@ -63,7 +63,7 @@ pub fn chip_at(cell: u32, burst: u32, chip: u32, by: u32) -> u8
     element_in(&t, 57, cell, chip, by)
 }
 
-// A whole midamble of a cell's row, shifted. Public for the crate midambles.
+// A whole midamble of a cell's row, shifted. Public for the crates midambles and signal_card.
 pub fn fill_chips(cell: u32, burst: u32, by: u32, out: &mut [u8])
     requires { ⌜ (cell < 128) × (by < 2048) × (codeOf burst .length ≤ length (now out)) ⌝ }
     ensures { λ _. ⌜ now (out .exit) ≡ run (λ (i : ℕ). element (codeOf burst .period) (getD (rowsOf burst) cell []) (i + by)) (codeOf burst .length) ++ drop (codeOf burst .length) (now (out .entry)) ⌝ }

@@ -1,5 +1,5 @@
--- Whole numbers as floats: up to 2 ^ prec, which is 2 ^ 24 for f32, the float of a whole number is that number, nothing rounded. Cited by the crate signal_card.
--- Once, over the format. Assumes nothing.
+-- Whole numbers as floats: up to 2 ^ prec, which is 2 ^ 24 for f32, the float of a whole number is that number, nothing rounded. Once, over the format.
+-- Cited by the crates signal_card, mqarbset_answers and facts. Assumes nothing.
 use mathlib.Core.Path.{_≡_, refl, sym, ap, _∙_, subst}
 use mathlib.Core.Bool.{Bool, true, false, not, true≢false}
 use Prim.Native.Nat.{ℕ, zero, suc, _*_, _^_, _≤_, _<_}
@@ -7,11 +7,11 @@ use native.Mathlib.Nat.{zero-lt-suc, mul-pos}
 use native.Mathlib.Omega.{arith}
 use lib.Dec.{T}
 use lib.IntN.{ℤ, pos, negsuc, negℤ, natAbs}
-use lib.Ieee.{Float, nan, inf, fin, Format, binary32, prec, up, down, neg, ofInt, fits, ofBits, toBits}
+use lib.Ieee.{Float, nan, inf, fin, Format, binary32, prec, up, down, top, neg, ofInt, ofBits, toBits, isNan}
 use lib.Ieee.Fits.{down-pos, neg-fits, ofInt-fits}
 use lib.Ieee.Exact.{HasValue}
 use lib.Ieee.Back.{round-whole, whole-unique}
-use lib.Ieee.Bits.{ofBits-toBits}
+use lib.Ieee.Bits.{toBits-ofBits}
 
 abbrev pub isMinus : ℤ → Bool
 isMinus (pos n) = false
@@ -55,6 +55,7 @@ never-minus-zero f (negsuc n) e h p = over (subst (λ (x : Float). HasValue x tr
     over : 0 * up e * 1 ≡ suc n * down e → 0 < suc n * down e → ⊥
     over q l = let z : 0 * up e ≡ 0 = omega arith in omega arith
 
--- two values of a format are the same where their bits are: what is promised of floats is promised of their bits (but a NaN has many patterns)
-pub bits-tell : (f : Format) (x y : Float) → T (fits f x) → T (fits f y) → toBits f x ≡ toBits f y → x ≡ y
-bits-tell f x y a b e = sym (ofBits-toBits f x a) ∙ ap (ofBits f) e ∙ ofBits-toBits f y b
+-- two patterns of bits that are read as one value are one pattern, but for a NaN, which has many: what is promised of a float that is no NaN is promised of its bits
+pub one-pattern : (f : Format) (m n : ℕ) → m < 2 * top f → n < 2 * top f → T (not (isNan (ofBits f m))) → ofBits f m ≡ ofBits f n → m ≡ n
+one-pattern f m n a b h e =
+    sym (toBits-ofBits f m a h) ∙ ap (toBits f) e ∙ toBits-ofBits f n b (subst (λ (x : Float). T (not (isNan x))) e h)

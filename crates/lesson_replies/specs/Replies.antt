@@ -1,5 +1,5 @@
--- docs/LESSONS.md, its table: the reply to a call that is answered in numbers, as the line of the table in `replies::said` and the numbers in it.
--- Cited by the promises here. Assumes nothing.
+-- docs/LESSONS.md, its table: the reply to a call that is answered in numbers, as the line of the table in `replies::said` and the numbers in it;
+-- and what the calls for the signal card answer, before it is written as a line. Cited by the promises here. Assumes nothing.
 use mathlib.Core.List.{List}
 use Prim.Native.Nat.{ℕ}
 use lib.ListN.{length, getD}

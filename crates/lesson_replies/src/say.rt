@@ -1,7 +1,7 @@
 // Replies. Each call puts one whole line into the buffer of output and gives back the place behind it.
 use refusal_words::WordsAnswer;
 
-// Document 01's words for a refusal.
+// The words of a refusal.
 fn words(out: &mut [u8; 4096], at: usize, refusal: u32) -> usize {
     let mut text = [0u8; 255];
     match refusal_words::words(refusal, &mut text) {
@@ -10,7 +10,7 @@ fn words(out: &mut [u8; 4096], at: usize, refusal: u32) -> usize {
     }
 }
 
-// `refused N: ` and document 01's words for the number.
+// `refused N: ` and the words of the number.
 pub fn refused(out: &mut [u8; 4096], at: usize, refusal: u32) -> usize {
     let n = named(out, at, b"refused #: ", refusal);
     let n = words(out, n, refusal);

@@ -1,5 +1,5 @@
 -- What the two calls of document 01's "Training sequences" answer, for all inputs: their refusals, what their enums say, their outcomes.
--- Cited by the promises of midamble_chip and midamble. Assumes nothing.
+-- Cited by the promises of midamble_chip and midamble, and by the crate signal_card. Assumes nothing.
 use mathlib.Core.List.{List, [], _∷_, _++_}
 use Prim.Native.Nat.{ℕ}
 use lib.ListN.{drop}

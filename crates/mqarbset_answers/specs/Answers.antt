@@ -1,4 +1,4 @@
--- How an answer of document 01 is written over C, and how a C caller reads it. Cited by the promises of the exports.
+-- How an answer of document 01 or 02 is written over C, and how a C caller reads it. Cited by the promises of the exports.
 -- Assumes nothing.
 use mathlib.Core.Bool.{cond}
 use Prim.Native.Nat.{ℕ}

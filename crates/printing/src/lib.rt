@@ -79,7 +79,7 @@ pub fn number(out: &mut [u8; 4096], at: usize, value: u64) -> usize {
     word(out, at, &text[..k])
 }
 
-// A float without its fraction, in decimal; `?` where it is below zero, beyond 64 bits or no number.
+// A float without its fraction, in decimal; `?` where it is -1 or less, beyond 64 bits or no number.
 fn size(out: &mut [u8; 4096], at: usize, x: f32) -> usize {
     if -1.0 < x {
         if x < 18446744073709551616.0 {

@@ -1,4 +1,4 @@
--- A text is copied from the front, one byte a turn, and what `put` then answers and leaves. Cited by the proofs of `copy`, `put` and `words`.
+-- A text is copied from the front, one byte a turn, and what `put` then answers and leaves. Cited by the proofs of `copy`, `put` and the functions that have the words.
 -- Assumes nothing.
 use mathlib.Core.Path.{_≡_, refl, sym, ap, _∙_}
 use mathlib.Core.Bool.{Bool, true, false}

@@ -13,9 +13,9 @@ use borrow.Author.Tests.{ltb-false}
 use Rattle.laws.specs.Runs.{run}
 use Rattle.laws.proofs.Bools.{or-false}
 use Rattle.laws.proofs.Runs.{run-length, run-at}
-use Rattle.refusals.specs.Refusals.{refused, answered, Refusals, _leaving_, firstOf, answer}
+use Rattle.refusals.specs.Refusals.{Refusals, _leaving_, firstOf, answer}
 use Rattle.refusals.specs.Inside.{orRefused}
-use Rattle.refusals.proofs.First.{numbered, first-holds, first-passes, first-none, append-refused, append-passes, reads-behind, reads-row, reads-all, append-front, answer-given, answer-refusal, refused-by, refused-leaving, answered-by, answered-leaving}
+use Rattle.refusals.proofs.First.{first-holds, first-passes, first-none, append-refused, append-passes, reads-behind, reads-row, reads-all, append-front, answer-given, answer-refusal, refused-by, refused-leaving, answered-by, answered-leaving}
 use Rattle.conditions.specs.Conditions.{badLevel, tooShort}
 use Rattle.tables.specs.Tables.{userRefusals}
 use Rattle.codes.specs.declared.Code.{Code}

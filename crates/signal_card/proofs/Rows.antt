@@ -1,4 +1,4 @@
--- A row of floats is written from the front, two a turn: the parts of one chip. Cited by the proofs of `fill` and `pairs`.
+-- A row of floats is written from the front, two a turn: the parts of one chip. Cited by the proof of `fill` and by the crate facts.
 -- Assumes nothing.
 use mathlib.Core.Path.{_≡_, refl, sym, ap, _∙_}
 use mathlib.Core.List.{List, [], _∷_, _++_}

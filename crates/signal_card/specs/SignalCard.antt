@@ -1,4 +1,4 @@
--- Document 02, C-12, "Chips for the signal card": a chip at a level, and a row of them. Cited by specs/Calls.antt.
+-- Document 02, C-12, "Chips for the signal card": a chip at a level, and a row of them. Cited by specs/Calls.antt, and over C.
 -- Over document 01's chip, its power of j, so that what a midamble is stands in one place (crate midambles). Assumes nothing.
 use mathlib.Core.Bool.{cond}
 use mathlib.Core.List.{List, [], _∷_}

@@ -15,17 +15,19 @@ use borrow.Author.Tests.{le-ltb}
 use Rattle.laws.proofs.Bools.{or-same}
 use Rattle.laws.proofs.Runs.{run-length, run-at}
 use Rattle.refusals.specs.Refusals.{answered, _leaving_, firstOf}
-use Rattle.refusals.proofs.First.{first-none, first-passes, append-front, append-passes, answer-answered, leaving-given}
+use Rattle.refusals.proofs.First.{first-passes, append-passes, answer-answered, leaving-given}
 use Rattle.conditions.specs.Conditions.{badMidambleChip, tooShort, badLevel}
 use Rattle.tables.specs.Tables.{userRefusals}
 use Rattle.codes.specs.Codes.{codeOf}
 use Rattle.midambles.specs.TrainingSequences.{chipOf, chipsOf}
 use Rattle.midambles.specs.Calls.{chipRefusals}
 use Rattle.midambles.proofs.Answers.{user-numbered, chip-numbered}
-use Rattle.floats.proofs.Whole.{isMinus, whole-exact, never-minus-zero}
+use Rattle.floats.specs.Whole.{isMinus}
+use Rattle.floats.proofs.Whole.{whole-exact, never-minus-zero}
 use Rattle.signal_card.specs.SignalCard.{pairOf, f32Of, realOf, imaginaryOf, floatsOf}
 use Rattle.signal_card.specs.Calls.{pairRefusals, pairAnswer, pairsRefusals, pairsOutcome}
 use Rattle.signal_card.proofs.Rows.{floats-length}
+use Rattle.signal_card.proofs.Answers.{row-good}
 
 -- "Powers 0, 1, 2, 3 are (a, 0), (0, a), (-a, 0), (0, -a)"
 pub four-powers : (a : ℕ) → map (pairOf a) (0 ∷ 1 ∷ 2 ∷ 3 ∷ [])
@@ -89,15 +91,8 @@ module _ (cell burst count user a n : ℕ) (out left : List Float)
   unfolding pairsOutcome
   filled = let w = leaving-given _ _ _ out _ left whole in (w .0, w .2)
 
-  user-good : firstOf (userRefusals cell burst count user) ≡ 0
-  unfolding pairsRefusals
-  user-good = append-front (userRefusals cell burst count user) _ (user-numbered cell burst count user) (filled .0)
-
-  level-good : badLevel a ≡ false
-  unfolding pairsRefusals
-  level-good =
-      let behind = sym (append-passes (userRefusals cell burst count user) _ (user-numbered cell burst count user) user-good) ∙ filled .0 in
-      first-none 21 (badLevel a) [] (first-none 10 (tooShort (2 * codeOf burst .length) out) _ behind .1) .0
+  good : (firstOf (userRefusals cell burst count user) ≡ 0) × (tooShort (2 * codeOf burst .length) out ≡ false) × (badLevel a ≡ false)
+  good = row-good cell burst count user a out (filled .0)
 
   chip-good : badMidambleChip (codeOf burst .length) i ≡ false
   unfolding badMidambleChip
@@ -107,8 +102,8 @@ module _ (cell burst count user a n : ℕ) (out left : List Float)
   unfolding pairRefusals chipRefusals firstOf
   none-refused =
       append-passes (chipRefusals cell burst count user i) _ (chip-numbered cell burst count user i)
-      (append-passes (userRefusals cell burst count user) _ (user-numbered cell burst count user) user-good ∙ first-passes 10 _ [] chip-good)
-      ∙ first-passes 22 _ [] level-good
+      (append-passes (userRefusals cell burst count user) _ (user-numbered cell burst count user) (good .0) ∙ first-passes 10 _ [] chip-good)
+      ∙ first-passes 22 _ [] (good .2)
 
   -- the two floats of chip i in the row
   in-row : (getD left (2 * (i - 1)) nan ≡ realOf a (chipOf cell burst user i)) × (getD left (2 * (i - 1) + 1) nan ≡ imaginaryOf a (chipOf cell burst user i))

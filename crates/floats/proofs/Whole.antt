@@ -12,10 +12,7 @@ use lib.Ieee.Fits.{down-pos, neg-fits, ofInt-fits}
 use lib.Ieee.Exact.{HasValue}
 use lib.Ieee.Back.{round-whole, whole-unique}
 use lib.Ieee.Bits.{toBits-ofBits}
-
-abbrev pub isMinus : ℤ → Bool
-isMinus (pos n) = false
-isMinus (negsuc n) = true
+use Rattle.floats.specs.Whole.{isMinus}
 
 -- the float of a whole number is finite, has its sign and is just as large
 pub whole-exact : (f : Format) (z : ℤ) → natAbs z ≤ 2 ^ prec f → HasValue (ofInt f z) (isMinus z) (natAbs z) 1

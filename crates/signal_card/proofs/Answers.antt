@@ -1,4 +1,4 @@
--- What each `return` of the two calls answers, over plain values. Cited by the proofs of at_any_level, pair and pairs.
+-- What each `return` of the two calls answers, over plain values. Cited by the proofs of at_any_level, pair and pairs, and by the crate facts.
 -- Assumes nothing.
 use mathlib.Core.Path.{_≡_, refl, sym, ap, _∙_}
 use mathlib.Core.Bool.{Bool, true, false}
@@ -81,6 +81,17 @@ module _ (cell burst count user i a : ℕ) where
       ∙ ap (λ (n : ℕ). answer n (realOf a (chipOf cell burst user i), imaginaryOf a (chipOf cell burst user i)))
       (sym (append-passes (chipRefusals cell burst count user i) ((22, badLevel a) ∷ []) (chip-numbered cell burst count user i) (g .0)))
 
+-- a row of which nothing is refused: its user, its room and its level are good
+pub row-good : (cell burst count user a : ℕ) (out : List Float) → firstOf (pairsRefusals cell burst count user a out) ≡ 0
+    → (firstOf (userRefusals cell burst count user) ≡ 0) × (tooShort (2 * codeOf burst .length) out ≡ false) × (badLevel a ≡ false)
+unfolding pairsRefusals
+row-good cell burst count user a out z =
+    let t = userRefusals cell burst count user in
+    let k = user-numbered cell burst count user in
+    let front = append-front t _ k z in
+    let room = first-none 10 (tooShort (2 * codeOf burst .length) out) _ (sym (append-passes t _ k front) ∙ z) in
+    (front, room .0, first-none 21 (badLevel a) [] (room .1) .0)
+
 -- a whole midamble: d is the code that was fetched, m what the tests of the user gave, k and n what those of the memory and of the level made of it
 module _ (cell burst count user a m k n : ℕ) (b : Bool) (out : List Float) (d : Code) (e : d ≡ codeOf burst) (t : b ≡ badLevel a)
     (u : m ≡ firstOf (userRefusals cell burst count user)) (s : k ≡ orRefused m 11 (ltb (length out) (2 * d .length))) (r : n ≡ orRefused k 22 b) where
@@ -100,26 +111,18 @@ module _ (cell burst count user a m k n : ℕ) (b : Bool) (out : List Float) (d 
   unfolding saidPairs pairsOutcome
   pairs-refused h = refused-leaving n _ _ out _ pairs-first h
 
-  user-none : n ≡ 0 → firstOf (userRefusals cell burst count user) ≡ 0
-  unfolding pairsRefusals
-  user-none z = append-front (userRefusals cell burst count user) behind (user-numbered cell burst count user) (sym pairs-first ∙ z)
-
-  behind-none : n ≡ 0 → (tooShort (2 * codeOf burst .length) out ≡ false) × (badLevel a ≡ false)
-  unfolding pairsRefusals
-  behind-none z =
-      let rest = sym (append-passes (userRefusals cell burst count user) behind (user-numbered cell burst count user) (user-none z)) ∙ sym pairs-first ∙ z in
-      let room = first-none 10 (tooShort (2 * codeOf burst .length) out) _ rest in
-      (room .0, first-none 21 (badLevel a) [] (room .1) .0)
+  pairs-good : n ≡ 0 → (firstOf (userRefusals cell burst count user) ≡ 0) × (tooShort (2 * codeOf burst .length) out ≡ false) × (badLevel a ≡ false)
+  pairs-good z = row-good cell burst count user a out (sym pairs-first ∙ z)
 
   pub pairs-passed : n ≡ 0 → Passed cell user
-  pairs-passed z = passed cell burst count user (user-none z)
+  pairs-passed z = passed cell burst count user (pairs-good z .0)
 
   pub pairs-room : n ≡ 0 → 2 * codeOf burst .length ≤ length out
   unfolding tooShort
-  pairs-room z = ltb-false (length out) (2 * codeOf burst .length) (behind-none z .0)
+  pairs-room z = ltb-false (length out) (2 * codeOf burst .length) (pairs-good z .1)
 
   pub pairs-level : n ≡ 0 → (1 ≤ a) × (a ≤ 2047)
-  pairs-level z = level-inside a (behind-none z .1)
+  pairs-level z = level-inside a (pairs-good z .2)
 
   -- the chips as they were filled, and the floats of their front
   pub pairs-written : n ≡ 0 → (by : ℕ) (l was : List ℕ) (left : List Float) → by ≡ shiftOf (codeOf burst) user

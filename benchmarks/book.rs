@@ -68,7 +68,7 @@ fn call(tally: &mut Tally, dice: &mut Dice, b: MqBook) -> MqBook {
     match dice.below(200) {
         0..=9 => {
             let [cell, sync, k] = [dice.below(130), dice.one_of(&[1, 1, 2, 2, 3]), dice.below(8)];
-            let [long, short] = [dice.one_of(&[0, 8, 16, 16, 7]), dice.one_of(&[0, 3, 6, 6, 5])];
+            let [long, short] = [dice.one_of(&[0, 4, 8, 16, 7]), dice.one_of(&[0, 3, 6, 6, 5])];
             let what = format!("open {seat} {cell} {sync} {k} {long} {short}");
             tally.both(
                 &what,
@@ -129,7 +129,7 @@ pub fn compare() -> u32 {
                 let mut damaged = b;
                 for _ in 0..=dice.below(2) {
                     damaged.0[dice.below(BOOK_BYTES as u32) as usize] =
-                        dice.one_of(&[0, 1, 1, 2, 3, 16, 40, 41, 255]);
+                        dice.one_of(&[0, 1, 1, 2, 3, 4, 16, 40, 41, 255]);
                 }
                 call(&mut tally, &mut dice, damaged);
             }
@@ -144,30 +144,32 @@ pub fn compare() -> u32 {
     tally.calls
 }
 
-/// Fifteen open seats with eight bookings each, and one that is closed.
-fn class_book() -> MqBook {
+/// Fifteen open seats of this long count with eight bookings each, and one that is closed.
+fn class_book(long: u32) -> MqBook {
     let mut b = plain::empty();
     for seat in 0..15 {
-        b = plain::open(b, seat, seat, 1, 0, 0, 0).book;
+        b = plain::open(b, seat, seat, 1, 0, long, 0).book;
         for turn in 0..8 {
-            b = plain::book(b, seat, wanted(turn)).book;
+            b = plain::book(b, seat, wanted(long, turn)).book;
         }
     }
     b
 }
 
-/// The booking of a seat's turn: not in list order.
-fn wanted(turn: u32) -> [u32; 8] {
-    [1 + turn * 5 % 14, 0, 1, 16, 1, 1 + turn, 0, 0]
+/// The booking of a seat's turn: not in list order. Under the count 4 by odd users.
+fn wanted(long: u32, turn: u32) -> [u32; 8] {
+    let user = if long == 4 { 1 + turn % 4 * 2 } else { 1 + turn };
+    [1 + turn * 5 % 14, 0, 1, 16, 1, user, 0, 0]
 }
 
 pub fn lines() -> Vec<Line> {
-    let b = class_book();
+    let (b, wide) = (class_book(16), class_book(4));
     let cells = (0..60).collect();
     let seats = || (0..60).map(|i| i % 15).collect();
-    let more = (0..60).map(|i| (i % 15, wanted(8 + i / 15))).collect();
-    let access = (0..60).map(|i| (i % 15, [wanted(i % 8)[0], 0, 3, 16, 2, 9, 0, 0])).collect();
-    let fewer = (0..60).map(|i| (i % 15, wanted(i % 8)[0])).collect();
+    let more = (0..60).map(|i| (i % 15, wanted(16, 8 + i / 15))).collect();
+    let odd = (0..60).map(|i| (i % 15, wanted(4, 8 + i / 15))).collect();
+    let access = (0..60).map(|i| (i % 15, [wanted(16, i % 8)[0], 0, 3, 16, 2, 9, 0, 0])).collect();
+    let fewer = (0..60).map(|i| (i % 15, wanted(16, i % 8)[0])).collect();
     let (mut ours, mut theirs) = ([0; 320], [0; 320]);
     vec![
         Line::new("empty book", vec![(); 200], |_| library::empty_book(), |_| plain::empty())
@@ -189,6 +191,12 @@ pub fn lines() -> Vec<Line> {
             access,
             move |&(seat, x)| library::book(*black_box(&b), seat, x),
             move |&(seat, x)| plain::book(*black_box(&b), seat, x),
+        ),
+        Line::new(
+            "book, under the count 4",
+            odd,
+            move |&(seat, x)| library::book(*black_box(&wide), seat, x),
+            move |&(seat, x)| plain::book(*black_box(&wide), seat, x),
         ),
         Line::new(
             "cancel",

@@ -119,7 +119,7 @@ mod plain {
     pub fn mixed(seed: u32, calls: u32) -> u32 {
         let mut b = empty_book();
         for i in 0..16 {
-            b = open_seat(b, i, i, 1 + i % 2, i % 8, i % 3 * 8, i % 4 * 3).book;
+            b = open_seat(b, i, i, 1 + i % 2, i % 8, i % 5 * 4, i % 4 * 3).book;
         }
         let mut sum = seed % 65536;
         let mut x = seed % 65536;

@@ -47,11 +47,17 @@ pub fn compare() -> u32 {
     compared
 }
 
+/// All cells, and the users that a count permits.
+pub fn users(count: u32) -> impl Iterator<Item = (u32, u32)> {
+    let permitted = move |user: &u32| plain::permitted(count, *user);
+    (0..128).flat_map(move |cell| (1..=16).filter(permitted).map(move |user| (cell, user)))
+}
+
 type Midamble = fn(u32, u32, u32, u32, &mut [u8]) -> MqAnswer;
 
 /// All cells and users. Memory is not cleared between the calls.
 fn whole(what: &'static str, burst: u32, count: u32, plain: Midamble) -> Line {
-    let inputs = (0..128).flat_map(|cell| (1..=count).map(move |user| (cell, user))).collect();
+    let inputs = users(count).collect();
     let (mut ours, mut theirs) = ([0; 512], [0; 512]);
     let library = move |&(cell, user): &(u32, u32)| {
         library::midamble(cell, burst, count, user, black_box(&mut ours))
@@ -63,9 +69,9 @@ fn whole(what: &'static str, burst: u32, count: u32, plain: Midamble) -> Line {
 
 /// All cells and users, and some chips of each.
 fn chips(what: &'static str, burst: u32, count: u32) -> Line {
-    let users = (0..128).flat_map(|cell| (1..=count).map(move |user| (cell, user)));
-    let inputs =
-        users.flat_map(|(cell, user)| (0..4).map(move |i| (cell, user, 61 * i + 1))).collect();
+    let inputs = users(count)
+        .flat_map(|(cell, user)| (0..4).map(move |i| (cell, user, 61 * i + 1)))
+        .collect();
     let library =
         move |&(cell, user, i): &(u32, u32, u32)| library::chip(cell, burst, count, user, i);
     Line::new(what, inputs, library, move |&(cell, user, i)| {
@@ -79,6 +85,7 @@ pub fn lines() -> Vec<Line> {
         chips("one chip, type 2", 2, 6),
         whole("midamble, type 1", 1, 16, plain::midamble).with_limit(&limits::MIDAMBLE),
         whole("midamble, type 2", 2, 6, plain::midamble).with_limit(&limits::MIDAMBLE),
+        whole("midamble, type 1, count 4", 1, 4, plain::midamble).with_limit(&limits::MIDAMBLE),
         whole("type 1, without a branch (*)", 1, 16, plain::without_branch),
         whole("type 2, without a branch (*)", 2, 6, plain::without_branch),
     ]

@@ -2,6 +2,7 @@
 
 use crate::dice::same;
 use crate::limits;
+use crate::midambles::users;
 use crate::plain::signal_card as plain;
 use crate::table::Line;
 use library::MqAnswer;
@@ -59,7 +60,7 @@ type Pairs = fn(u32, u32, u32, u32, u32, &mut [f32]) -> MqAnswer;
 
 /// All cells and users, at levels that change from one to the next. The row is not cleared between the calls.
 fn whole(what: &'static str, burst: u32, count: u32, plain: Pairs) -> Line {
-    let inputs = (0..128).flat_map(|cell| (1..=count).map(move |user| (cell, user))).collect();
+    let inputs = users(count).collect();
     let level = |cell: u32, user: u32| 1 + 15 * cell + user;
     let (mut ours, mut theirs) = ([0.0; 1024], [0.0; 1024]);
     let library = move |&(cell, user): &(u32, u32)| {
@@ -72,9 +73,9 @@ fn whole(what: &'static str, burst: u32, count: u32, plain: Pairs) -> Line {
 
 /// All cells and users, and some chips of each.
 fn one_pair(what: &'static str, burst: u32, count: u32) -> Line {
-    let users = (0..128).flat_map(|cell| (1..=count).map(move |user| (cell, user)));
-    let inputs =
-        users.flat_map(|(cell, user)| (0..4).map(move |i| (cell, user, 61 * i + 1))).collect();
+    let inputs = users(count)
+        .flat_map(|(cell, user)| (0..4).map(move |i| (cell, user, 61 * i + 1)))
+        .collect();
     let library =
         move |&(cell, user, i): &(u32, u32, u32)| library::pair(cell, burst, count, user, i, 1000);
     Line::new(what, inputs, library, move |&(cell, user, i)| {

@@ -1,4 +1,4 @@
-"""The Python module beside what it says: rows of floats, threads, copies, pickles, wrong arguments, where the library is found, its version.
+"""The Python module beside what it says: users and counts, rows of floats, threads, copies, pickles, wrong arguments, where the library is found, its version.
 
     MQARBSET_LIBRARY=.. PYTHONPATH=python python3 checks/python.py TEMPORARY-FOLDER
 
@@ -129,6 +129,23 @@ def floats():
     holds('22 is last in order', raised(Refused, mqarbset.pair, 0, 1, 8, 1, 513, 0).number == 10 and raised(Refused, mqarbset.pairs, 0, 1, 8, 9, 0).number == 4)
 
 
+def users():
+    """Which users each count permits, in a question and in a seat; and their chips, which are the same under every count."""
+    for burst, full, count, permitted in ((1, 16, 16, range(1, 17)), (3, 16, 8, range(1, 9)), (1, 16, 4, (1, 3, 5, 7)), (2, 6, 6, range(1, 7)), (2, 6, 3, (1, 2, 3))):
+        book = Book()
+        book.open(0, 17, 1, 0, **{'short' if burst == 2 else 'long': count})
+        for user in range(19):
+            if user in permitted:
+                holds('a permitted user has the same chips under every count', mqarbset.midamble(17, burst, count, user) == mqarbset.midamble(17, burst, full, user))
+                book.book(0, 1, UP, burst, 16, 1, user)
+                book.cancel(0, 1, 16, 1)
+                continue
+            holds(f'user {user} of {count} is refused with 4', raised(Refused, mqarbset.midamble, 17, burst, count, user).number == 4)
+            none = user < 1 or user > full
+            holds(f'user {user} in a seat of {count} is refused', raised(Refused, book.book, 0, 1, UP, burst, 16, 1, user).number == (4 if none else 16))
+    holds('4 is no count of type 2', raised(Refused, mqarbset.midamble, 17, 2, 4, 1).number == 3 and raised(Refused, Book().open, 0, 17, 1, 0, 4, 4).number == 3)
+
+
 def books():
     book, other = Book(), Book()
     holds('two empty books are equal', book == other and not book != other)
@@ -177,6 +194,6 @@ def found():
 
 
 if __name__ == '__main__':
-    for part in (arguments, floats, books, pickles, threads, found):
+    for part in (arguments, users, floats, books, pickles, threads, found):
         part()
     print(f'python: {tried} things tried of the module, all as it says')

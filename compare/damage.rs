@@ -8,6 +8,10 @@ const SETTINGS_BYTES: usize = 7;
 const BOOKING_BYTES: usize = 8;
 const PLACES: usize = 40;
 
+/// Where these stand in a seat, whose first byte says whether it is open.
+const LONG_COUNT: usize = 4;
+const SHORT_COUNT: usize = 5;
+
 /// Where these stand in a booking, whose first byte is the timeslot.
 const BURST_TYPE: usize = 2;
 const USER: usize = 5;
@@ -32,7 +36,7 @@ pub fn broken(dice: &mut Dice, whole: &MqBook) -> MqBook {
     let last = booking_place(seat, PLACES - 1);
     let timeslot = |place| b.0[booking_place(seat, place)];
     let together = (1..held).find(|&place| timeslot(place) == timeslot(place - 1)).unwrap_or(held);
-    match dice.below(10) {
+    match dice.below(13) {
         0 => b.0 = [255; BOOK_BYTES],
         // neither open nor closed
         1 => b.0[start] = 2 + dice.below(254) as u8,
@@ -57,6 +61,18 @@ pub fn broken(dice: &mut Dice, whole: &MqBook) -> MqBook {
             let booking = booking_place(seat, together);
             b.0[booking + BURST_TYPE] = if b.0[booking + BURST_TYPE] == 2 { 1 } else { 2 };
             b.0[booking + USER] = 3;
+        }
+        // a count that is none: 0 is left, or a long one is short, or 4 is a short one
+        10 if live => b.0[start + LONG_COUNT] = dice.pick(&[0, 3, 5, 6, 7, 12, 17, 255]),
+        11 if live => b.0[start + SHORT_COUNT] = dice.pick(&[0, 1, 2, 4, 5, 7, 8, 16]),
+        // a user that its seat's count does not permit
+        12 if held >= 1 && b.0[first + BURST_TYPE] == 2 => {
+            b.0[start + SHORT_COUNT] = 3;
+            b.0[first + USER] = dice.pick(&[4, 5, 6]);
+        }
+        12 if held >= 1 => {
+            b.0[start + LONG_COUNT] = 4;
+            b.0[first + USER] = dice.pick(&[2, 4, 6, 8, 9, 11, 16]);
         }
         // no k
         _ => b.0[start + 3] = 15 + dice.below(241) as u8,

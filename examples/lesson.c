@@ -25,6 +25,10 @@ static void midamble(void)
     printf("\n");
     answer = mq_midamble(0, 1, 8, 9, chips, sizeof chips);
     refused("user 9 of 8", answer.refusal);
+    answer = mq_midamble(0, 1, 4, 7, chips, sizeof chips);
+    printf("user 7 of 4, in a wide harbour: %u chips\n", (unsigned)answer.value);
+    answer = mq_midamble(0, 1, 4, 2, chips, sizeof chips);
+    refused("user 2 of 4", answer.refusal);
 }
 
 static void signal_card(void)

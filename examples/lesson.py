@@ -41,6 +41,8 @@ def made_again(lines):
 def questions():
     tried('midamble of cell 0, type 1, user 8 of 8, the first chips', lambda: list(mqarbset.midamble(0, 1, 8, 8)[:8]))
     tried('user 9 of 8', mqarbset.midamble, 0, 1, 8, 9)
+    tried('user 7 of 4, in a wide harbour, the first chips', lambda: list(mqarbset.midamble(0, 1, 4, 7)[:8]))
+    tried('user 2 of 4', mqarbset.midamble, 0, 1, 4, 2)
     tried('chip 1', mqarbset.midamble_chip, 0, 1, 8, 8, 1)
 
     tried('chip 4 for the signal card at level 1000', mqarbset.pair, 0, 1, 8, 8, 4, 1000)

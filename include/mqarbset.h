@@ -38,9 +38,9 @@ extern "C" {
 /* ---- version ---------------------------------------------------------------------------------------------------------------------------- */
 
 #define MQ_VERSION_MAJOR 0
-#define MQ_VERSION_MINOR 4
+#define MQ_VERSION_MINOR 5
 #define MQ_VERSION_PATCH 0
-#define MQ_VERSION 400          /* major times 10000, minor times 100, patch */
+#define MQ_VERSION 500          /* major times 10000, minor times 100, patch */
 #define MQ_ABI 1                /* libmqarbset.so.MQ_ABI; it changes when the book's size or a call that is there does; a new call alone does not move it */
 
 /* The library that runs, beside the header that a program was compiled with: MQ_VERSION there, and the bytes of a book there. A program that is
@@ -95,13 +95,13 @@ enum mq_reading {
 
 /* ---- refusals --------------------------------------------------------------------------------------------------------------------------- */
 
-/* Each with its words, document 01's for 1 to 21, as mq_refusal_text gives them; what this interface adds stands behind a bar. */
+/* Each with its words, document 01's but for 3, 4, 16 and 22, as mq_refusal_text gives them; what this interface adds stands behind a bar. */
 enum mq_refusal {
     MQ_REFUSED_NONE = 0,
     MQ_REFUSED_CELL = 1,        /* cell parameter above 127 */
     MQ_REFUSED_TYPE = 2,        /* burst type not 1, 2 or 3 */
-    MQ_REFUSED_COUNT = 3,       /* midamble count not 8 or 16 (types 1, 3), not 3 or 6 (type 2); in opening a seat 0 is allowed too */
-    MQ_REFUSED_USER = 4,        /* user outside 1..count (in a booking: outside 1..16 for types 1, 3; 1..6 for type 2) */
+    MQ_REFUSED_COUNT = 3,       /* midamble count not 4, 8 or 16 (types 1, 3), not 3 or 6 (type 2); in opening a seat 0 is allowed too */
+    MQ_REFUSED_USER = 4,        /* user not permitted under the count (in a booking: outside 1..16 for types 1, 3; 1..6 for type 2) */
     MQ_REFUSED_TIMESLOT = 5,    /* timeslot above 14 */
     MQ_REFUSED_CODE = 6,        /* spreading factor not 1, 2, 4, 8, 16; code index outside 1..factor; where a direction is given, downlink with
                                    a factor other than 1 or 16 | a direction that is neither MQ_UP nor MQ_DOWN */
@@ -116,7 +116,7 @@ enum mq_refusal {
     MQ_REFUSED_SEAT = 13,       /* seat above 15 */
     MQ_REFUSED_CLOSED = 14,     /* seat not open */
     MQ_REFUSED_OPEN = 15,       /* seat open already */
-    MQ_REFUSED_ABOVE = 16,      /* user above this seat's count */
+    MQ_REFUSED_ABOVE = 16,      /* user not permitted under this seat's count */
     MQ_REFUSED_CLASH = 17,      /* clash inside this seat's own cell */
     MQ_REFUSED_BEACON = 18,     /* beacon rule */
     MQ_REFUSED_FULL = 19,       /* seat holds 40 */
@@ -150,8 +150,8 @@ static inline char *mq_refusal_string(uint32_t number, char *text)
 /* One chip of a user's midamble, as its power of j.
  *   cell     cell parameter, 0 to 127: the row of the basic codes
  *   burst    burst type, 1 to 3: types 1 and 3 have long midambles, type 2 short ones
- *   count    midambles in the cell: 8 or 16 (types 1, 3), 3 or 6 (type 2)
- *   user     1 to count
+ *   count    midambles in the cell: 4, 8 or 16 (types 1, 3), 3 or 6 (type 2)
+ *   user     one that the count permits: 1 to count, but for the count 4, which permits the odd users 1, 3, 5 and 7
  *   chip     from 1 to MQ_LONG_MIDAMBLE, or MQ_SHORT_MIDAMBLE for type 2
  * Value: 0 to 3. Refusals: 1, 2, 3, 4, 10. Stack: 9 KB. */
 MQ_MUST_USE mq_answer mq_midamble_chip(uint32_t cell, uint32_t burst, uint32_t count, uint32_t user, uint32_t chip);
@@ -334,7 +334,7 @@ static inline uint32_t mq_taken(mq_book *book, const mq_book_answer *answer)
  *   seat         0 to 15, not open
  *   cell         cell parameter, 0 to 127
  *   sync, k      synchronisation case and its k, as for mq_beacon
- *   long_count   midambles of types 1 and 3: 8, 16, or 0 for 16
+ *   long_count   midambles of types 1 and 3: 4, 8, 16, or 0 for 16
  *   short_count  midambles of type 2: 3, 6, or 0 for 6
  * Refusals: 1, 3, 9, 12, 13, 15. Stack: 48 KB. */
 MQ_MUST_USE static inline uint32_t mq_open(mq_book *book, uint32_t seat, uint32_t cell, uint32_t sync, uint32_t k, uint32_t long_count, uint32_t short_count)
@@ -350,7 +350,7 @@ MQ_MUST_USE static inline uint32_t mq_open(mq_book *book, uint32_t seat, uint32_
  *   burst        1 to 3; downlink 1 or 2
  *   factor       spreading factor: 1, 2, 4, 8 or 16; downlink 1 or 16
  *   index        1 to factor
- *   user         1 to the seat's count of the burst type
+ *   user         one that the seat's count of the burst type permits, as for mq_midamble_chip
  *   tfci, tpc    TFCI and TPC bits, as for mq_parts
  * In one timeslot two bookings of a seat clash (17) if their directions differ, or if exactly one of them is type 2 (types 1 and 3 may lie beside
  * each other), or if their codes share a leaf.

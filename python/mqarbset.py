@@ -23,7 +23,7 @@ __all__ = [
     'UP', 'DOWN', 'OFF', 'ON', 'TORN', 'Part', 'Span', 'Parts', 'Place', 'Indicator', 'Booking', 'Book', 'Refused',
     'refusal_text', 'midamble_chip', 'midamble', 'pair', 'pairs', 'parts', 'at', 'beacon', 'indicator', 'owner', 'page', 'read_page',
 ]
-__version__ = '0.4.0'
+__version__ = '0.5.0'
 
 UP, DOWN = 0, 1
 OFF, ON, TORN = 0, 1, 2
@@ -240,8 +240,8 @@ def refusal_text(number: int) -> str:
 def midamble_chip(cell: int, burst: int, count: int, user: int, chip: int) -> int:
     """One chip of a user's midamble: its power of j, 0 to 3.
 
-    cell 0 to 127; burst type 1 to 3; count 8 or 16 (type 2: 3 or 6); user 1 to count; chip 1 to 512
-    (type 2: 256). Refused with 1, 2, 3, 4, 10.
+    cell 0 to 127; burst type 1 to 3; count 4, 8 or 16 (type 2: 3 or 6); user 1 to count, under 4 one of
+    1, 3, 5, 7; chip 1 to 512 (type 2: 256). Refused with 1, 2, 3, 4, 10.
     """
     return _call('mq_midamble_chip', cell=cell, burst=burst, count=count, user=user, chip=chip).value
 
@@ -249,8 +249,8 @@ def midamble_chip(cell: int, burst: int, count: int, user: int, chip: int) -> in
 def midamble(cell: int, burst: int, count: int, user: int) -> bytes:
     """All chips of a user's midamble, a byte each: 512, or 256 for type 2.
 
-    cell 0 to 127; burst type 1 to 3; count 8 or 16 (type 2: 3 or 6); user 1 to count. Refused with
-    1, 2, 3, 4.
+    cell 0 to 127; burst type 1 to 3; count 4, 8 or 16 (type 2: 3 or 6); user 1 to count, under 4 one of
+    1, 3, 5, 7. Refused with 1, 2, 3, 4.
     """
     return _written('mq_midamble', _LONG_MIDAMBLE, cell=cell, burst=burst, count=count, user=user)
 
@@ -380,8 +380,8 @@ class Book:
     def open(self, seat: int, cell: int, sync: int, k: int, long: int = 0, short: int = 0) -> None:
         """Opens a seat.
 
-        seat 0 to 15, not open; cell 0 to 127; sync and k as for beacon; long 8 or 16, or 0 for 16; short
-        3 or 6, or 0 for 6. Refused with 1, 3, 9, 12, 13, 15.
+        seat 0 to 15, not open; cell 0 to 127; sync and k as for beacon; long 4, 8 or 16, or 0 for 16;
+        short 3 or 6, or 0 for 6. Refused with 1, 3, 9, 12, 13, 15.
         """
         self._changed('mq_open_value', seat=seat, cell=cell, sync=sync, k=k, long=long, short=short)
 
@@ -390,9 +390,10 @@ class Book:
         """Books a code in a timeslot for a seat.
 
         seat 0 to 15, open; timeslot 0 to 14; direction UP or DOWN; burst type 1 to 3 (DOWN: 1, 2); factor
-        1, 2, 4, 8, 16 (DOWN: 1, 16); index 1 to factor; user 1 to the seat's count; tfci and tpc as for
-        parts. In one timeslot two bookings of a seat clash (17) if their directions differ, or if exactly
-        one of them is type 2, or if their codes share a leaf. Refused with 2, 4 to 8, 12 to 14, 16 to 20.
+        1, 2, 4, 8, 16 (DOWN: 1, 16); index 1 to factor; user 1 to the seat's count, under 4 one of 1, 3, 5,
+        7; tfci and tpc as for parts. In one timeslot two bookings of a seat clash (17) if their directions
+        differ, or if exactly one of them is type 2, or if their codes share a leaf. Refused with 2, 4 to 8,
+        12 to 14, 16 to 20.
         """
         self._changed('mq_book_value', seat=seat, timeslot=timeslot, direction=direction, burst=burst,
                       factor=factor, index=index, user=user, tfci=tfci, tpc=tpc)

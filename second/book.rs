@@ -1,10 +1,11 @@
 //! Document 01, "The class book", with the rules (a) to (f) of "Beacon timeslots (clauses 5.3.4, 5.5)"; which burst
-//! types clash is document 02's.
+//! types clash, and which users a seat's count permits, is document 02's.
 //!
 //! The book here is a list of bookings for each open seat, in the order in which they were made. "Its form inside is
 //! the team's choice": this one holds nothing twice.
 
 use crate::beacons::beacon_timeslots;
+use crate::midambles::{permitted, refuse_bad_count};
 use crate::refusals::{refuse_if, refuse_unknown_type, Answer};
 use crate::timeslots::{
     refuse_bad_control, refuse_bad_factor, refuse_downlink_type_3, Direction, LAST_TIMESLOT,
@@ -99,11 +100,11 @@ pub struct Settings {
 }
 
 impl Settings {
-    /// Refusals 1, 3, 9, of an opening.
+    /// Refusals 1, 3 and 9, of settings with no 0 left: the long count is for types 1 and 3, the short one for type 2.
     fn refusals(&self) -> Answer<()> {
         refuse_if(self.cell > 127, 1)?;
-        refuse_if(![0, 8, 16].contains(&self.long_count), 3)?;
-        refuse_if(![0, 3, 6].contains(&self.short_count), 3)?;
+        refuse_bad_count(1, self.long_count)?;
+        refuse_bad_count(2, self.short_count)?;
         beacon_timeslots(self.case, self.k)?;
         Ok(())
     }
@@ -166,10 +167,11 @@ pub struct Book {
     pub damaged: bool,
 }
 
-/// Refusal 4 as it is in a booking: "outside 1..16 for types 1, 3; 1..6 for type 2".
+/// Refusal 4 as it is in a booking, which names no count: "outside 1..16 for types 1, 3; 1..6 for type 2", whatever the
+/// seat's counts are.
 fn refuse_bad_user(burst_type: u32, user: u32) -> Answer<()> {
-    let most = if burst_type == 2 { 6 } else { 16 };
-    refuse_if(user < 1 || user > most, 4)
+    let widest = if burst_type == 2 { 6 } else { 16 };
+    refuse_if(!permitted(widest, user), 4)
 }
 
 /// Refusal 5: timeslot above 14.
@@ -203,11 +205,11 @@ impl Book {
 
     /// Opens a seat. Refusals 1, 3, 9, 12, 13, 15.
     pub fn open(&mut self, seat: u32, settings: Settings) -> Answer<()> {
+        let settings = settings.without_zeros();
         settings.refusals()?;
         let place = self.place(seat)?;
         refuse_if(self.seats[place].is_some(), 15)?;
-        self.seats[place] =
-            Some(OpenSeat { settings: settings.without_zeros(), bookings: Vec::new() });
+        self.seats[place] = Some(OpenSeat { settings, bookings: Vec::new() });
         Ok(())
     }
 
@@ -222,7 +224,7 @@ impl Book {
     pub fn booking_refusals(&self, seat: u32, wanted: &Record) -> Answer<()> {
         refuse_bad_booking(wanted)?;
         let OpenSeat { settings, bookings } = self.open_seat(seat)?;
-        refuse_if(wanted.user > settings.count(wanted.burst_type), 16)?;
+        refuse_if(!permitted(settings.count(wanted.burst_type), wanted.user), 16)?;
         refuse_if(bookings.iter().any(|held| held.clashes_with(wanted)), 17)?;
         refuse_if(settings.beacon_rule_refuses(wanted), 18)?;
         refuse_if(bookings.len() == MOST_OF_A_SEAT, 19)?;

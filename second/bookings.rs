@@ -2,6 +2,7 @@
 
 use crate::book::{Record, Settings, MOST_OF_A_SEAT};
 use crate::dice::Dice;
+use crate::midambles::permitted_users;
 use crate::timeslots::{Direction, LAST_TIMESLOT};
 
 /// A timeslot, and whether it is one of the beacons. Of a hundred, so many aim at a beacon.
@@ -60,11 +61,17 @@ pub fn aimed(dice: &mut Dice, at_beacons: u32, settings: Settings, held: &[Recor
     let user = if beacon && (factor, index) == (16, 1) {
         1
     } else {
-        dice.between(1, settings.count(burst_type))
+        dice.pick(&permitted_users(settings.count(burst_type)))
     };
     let record =
         Record { timeslot, direction, burst_type, factor, index, user, tfci_bits: 0, tpc_bits: 0 };
     with_control_bits(dice, record)
+}
+
+/// The booking with any user on both sides of the counts' rules, permitted under the seat's count or not.
+pub fn with_any_user(dice: &mut Dice, record: Record) -> Record {
+    let last = if record.burst_type == 2 { 7 } else { 17 };
+    Record { user: dice.between(0, last), ..record }
 }
 
 /// A booking made without looking at what the seat holds.

@@ -2,7 +2,7 @@
 //! asks: no answer stands here. Written by an author of the library, but for the signal card's questions; these and the
 //! rest of this program by people who had not seen it.
 
-use crate::midambles::family;
+use crate::midambles::{family, good_count, permitted, permitted_users};
 use crate::paging;
 use crate::scenarios;
 use crate::timeslots::{timeslot, Direction, Question, CHIPS};
@@ -34,10 +34,9 @@ pub fn print(out: &mut dyn Write) -> io::Result<()> {
 fn midambles(put: Put) -> io::Result<()> {
     for burst_type in [0, 1, 2, 3, 4, LARGEST] {
         for count in (0..=17).chain([LARGEST]) {
-            let allowed =
-                (1..=3).contains(&burst_type) && family(burst_type).counts.contains(&count);
+            let allowed = (1..=3).contains(&burst_type) && good_count(burst_type, count);
             for user in (0..=17).chain([LARGEST]) {
-                let all = allowed && (1..=count).contains(&user);
+                let all = allowed && permitted(count, user);
                 for cell in (0..=128).chain([LARGEST]) {
                     if all || [0, 127, 128, LARGEST].contains(&cell) {
                         put(format!("midamble {cell} {burst_type} {count} {user}"))?;
@@ -49,6 +48,12 @@ fn midambles(put: Put) -> io::Result<()> {
     Ok(())
 }
 
+/// Counts on both sides of the rule.
+const COUNTS: [u32; 11] = [0, 3, 4, 5, 6, 7, 8, 9, 16, 17, LARGEST];
+
+/// Users on both sides of every count's rule.
+const USERS: [u32; 13] = [0, 1, 2, 3, 4, 5, 6, 7, 8, 9, 16, 17, LARGEST];
+
 /// Every chip of one user of each type, and the chips just outside; each number that a chip's question may have wrong,
 /// by itself and with others.
 fn chips(put: Put) -> io::Result<()> {
@@ -59,8 +64,8 @@ fn chips(put: Put) -> io::Result<()> {
     }
     for cell in [127, 128, LARGEST] {
         for burst_type in [0, 1, 2, 3, 4, LARGEST] {
-            for count in [0, 3, 6, 7, 8, 9, 16, LARGEST] {
-                for user in [0, 1, 3, 4, 6, 7, 8, 9, 16, 17, LARGEST] {
+            for count in COUNTS {
+                for user in USERS {
                     for i in [0, 1, 256, 257, 512, 513, LARGEST] {
                         put(format!("chip {cell} {burst_type} {count} {user} {i}"))?;
                     }
@@ -92,8 +97,8 @@ fn pairs_of_chips(put: Put) -> io::Result<()> {
         }
     }
     for burst_type in [0, 1, 2, 3, 4, LARGEST] {
-        for count in [0, 3, 6, 7, 8, 9, 16, LARGEST] {
-            for user in [0, 1, 3, 4, 6, 7, 8, 9, 16, 17, LARGEST] {
+        for count in COUNTS {
+            for user in USERS {
                 for i in [0, 1, 256, 257, 512, 513, LARGEST] {
                     for level in LEVELS {
                         put(format!("pair 127 {burst_type} {count} {user} {i} {level}"))?;
@@ -104,8 +109,8 @@ fn pairs_of_chips(put: Put) -> io::Result<()> {
     }
     for cell in [128, LARGEST] {
         for burst_type in [0, 1, 2, 4] {
-            for count in [0, 3, 8] {
-                for user in [0, 1, 9] {
+            for count in [0, 3, 4, 8] {
+                for user in [0, 1, 2, 9] {
                     for i in [0, 1, 513] {
                         for level in LEVELS {
                             put(format!("pair {cell} {burst_type} {count} {user} {i} {level}"))?;
@@ -124,8 +129,8 @@ fn pairs_of_chips(put: Put) -> io::Result<()> {
 fn pairs_of_midambles(put: Put) -> io::Result<()> {
     for cell in [0, 127] {
         for burst_type in 1..=3 {
-            for count in family(burst_type).counts {
-                for user in 1..=count {
+            for &count in family(burst_type).counts {
+                for user in permitted_users(count) {
                     for level in [1, 2047] {
                         put(format!("pairs {cell} {burst_type} {count} {user} {level}"))?;
                     }
@@ -138,13 +143,13 @@ fn pairs_of_midambles(put: Put) -> io::Result<()> {
             put(format!("pairs {cell} {user} {}", 1 + 16 * cell))?;
         }
     }
-    for (burst_type, count) in [(1, 16), (2, 6), (3, 8)] {
-        let counts = [0, 3, 4, 6, 7, 8, 9, 16, 17, LARGEST];
-        let mut questions = vec![[127, burst_type, count, count]];
-        questions.extend([128, LARGEST].map(|cell| [cell, burst_type, count, count]));
-        questions.extend([0, 4, LARGEST].map(|burst_type| [127, burst_type, count, count]));
-        questions.extend(counts.map(|count| [127, burst_type, count, 1]));
-        questions.extend([0, count + 1, LARGEST].map(|user| [127, burst_type, count, user]));
+    for (burst_type, count, user) in [(1, 16, 16), (2, 6, 6), (3, 8, 8), (1, 4, 7), (3, 4, 5)] {
+        let wrong_users = USERS.into_iter().filter(|user| !permitted(count, *user));
+        let mut questions = vec![[127, burst_type, count, user]];
+        questions.extend([128, LARGEST].map(|cell| [cell, burst_type, count, user]));
+        questions.extend([0, 4, LARGEST].map(|burst_type| [127, burst_type, count, user]));
+        questions.extend(COUNTS.map(|count| [127, burst_type, count, 1]));
+        questions.extend(wrong_users.map(|user| [127, burst_type, count, user]));
         for [cell, burst_type, count, user] in questions {
             for level in LEVELS {
                 put(format!("pairs {cell} {burst_type} {count} {user} {level}"))?;

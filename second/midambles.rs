@@ -1,4 +1,5 @@
-//! Document 01, "Training sequences (clause 5.2.3, Annex A)".
+//! Document 01, "Training sequences (clause 5.2.3, Annex A)"; the long count 4, and which users a count permits, are
+//! document 02's.
 
 use crate::refusals::{refuse_if, refuse_unknown_type, Answer};
 use crate::rows::Rows;
@@ -15,7 +16,7 @@ pub struct Family {
     /// h
     pub half_step: usize,
     /// The midamble counts that refusal 3 allows.
-    pub counts: [u32; 2],
+    pub counts: &'static [u32],
     /// The last element read by any user.
     pub last_element: usize,
 }
@@ -26,7 +27,7 @@ const LONG: Family = Family {
     step: 57,
     midamble_length: 512,
     half_step: 28,
-    counts: [8, 16],
+    counts: &[4, 8, 16],
     last_element: 939,
 };
 
@@ -36,7 +37,7 @@ const SHORT: Family = Family {
     step: 64,
     midamble_length: 256,
     half_step: 32,
-    counts: [3, 6],
+    counts: &[3, 6],
     last_element: 416,
 };
 
@@ -47,6 +48,31 @@ pub fn family(burst_type: u32) -> &'static Family {
     } else {
         &LONG
     }
+}
+
+/// Whether refusal 3 allows the count: 4, 8 or 16 for types 1 and 3, 3 or 6 for type 2.
+pub fn good_count(burst_type: u32, count: u32) -> bool {
+    family(burst_type).counts.contains(&count)
+}
+
+/// Refusal 3: a midamble count that is none of the burst type's.
+pub fn refuse_bad_count(burst_type: u32, count: u32) -> Answer<()> {
+    refuse_if(!good_count(burst_type, count), 3)
+}
+
+/// Whether the count permits the user. Under the count 4 "only odd users up to K', so users 1, 3, 5, 7"; under the
+/// others the users from 1 to the count. What is no count at all permits nobody.
+pub fn permitted(count: u32, user: u32) -> bool {
+    match count {
+        4 => [1, 3, 5, 7].contains(&user),
+        3 | 6 | 8 | 16 => (1..=count).contains(&user),
+        _ => false,
+    }
+}
+
+/// The users that the count permits; no count permits one above 16.
+pub fn permitted_users(count: u32) -> Vec<u32> {
+    (1..=16).filter(|user| permitted(count, *user)).collect()
 }
 
 /// The row of a cell parameter: "Row n belongs to cell parameter n."
@@ -128,12 +154,12 @@ pub fn shift(family: &Family, k: usize) -> usize {
     }
 }
 
-/// Refusals 1 to 4, common to one chip and a whole midamble.
+/// Refusals 1 to 4, common to one chip and a whole midamble: the call names the count, so 4 goes by it.
 fn refusals_1_to_4(cell: u32, burst_type: u32, count: u32, user: u32) -> Answer<()> {
     refuse_if(cell > 127, 1)?;
     refuse_unknown_type(burst_type)?;
-    refuse_if(!family(burst_type).counts.contains(&count), 3)?;
-    refuse_if(user < 1 || user > count, 4)
+    refuse_bad_count(burst_type, count)?;
+    refuse_if(!permitted(count, user), 4)
 }
 
 /// The chips of a user, all of them: "Chip i of user k is element i + shift." For questions that are not refused.

@@ -1,7 +1,9 @@
 //! Random calls beside the class book's, for random lessons: each word is within the rules, but that some words of page
-//! and read are too short or too long, and that a few levels of pair and pairs lie just outside, at 0 and 2048.
+//! and read are too short or too long, that a few levels of pair and pairs lie just outside, at 0 and 2048, and that
+//! some users of a midamble are not permitted under the count.
 
 use crate::dice::Dice;
+use crate::midambles::{family, permitted_users};
 
 /// A random call of chip, midamble, pair, pairs, parts, at, beacon, indicator, page, read, owner. There is no `help` in
 /// it: the two programs need not agree on its reply.
@@ -22,14 +24,16 @@ pub fn question(dice: &mut Dice) -> String {
     ask(dice)
 }
 
-/// CELL TYPE COUNT USER, and the midamble's length.
+/// CELL TYPE COUNT USER, and the midamble's length. The user is mostly one that the count permits, now and then any of
+/// 0 to 17.
 fn user_of_a_cell(dice: &mut Dice) -> (String, u32) {
     let cell = dice.below(128);
     let burst_type = dice.between(1, 3);
-    let (counts, length) = if burst_type == 2 { ([3, 6], 256) } else { ([8, 16], 512) };
-    let count = dice.pick(&counts);
-    let user = dice.between(1, count);
-    (format!("{cell} {burst_type} {count} {user}"), length)
+    let family = family(burst_type);
+    let count = dice.pick(family.counts);
+    let user =
+        if dice.one_in(8) { dice.between(0, 17) } else { dice.pick(&permitted_users(count)) };
+    (format!("{cell} {burst_type} {count} {user}"), family.midamble_length as u32)
 }
 
 fn chip(dice: &mut Dice) -> String {

@@ -4,7 +4,7 @@
 //! aim: at bookings that are accepted, and at those that only lack room.
 
 use crate::book::{Record, Settings, SEATS};
-use crate::bookings::{aimed, blind, to_cancel};
+use crate::bookings::{aimed, blind, to_cancel, with_any_user};
 use crate::calls;
 use crate::dice::Dice;
 use crate::lesson::{Bench, LONGEST_LINE};
@@ -218,12 +218,13 @@ impl Writer<'_> {
         let cell = self.dice.below(128);
         let (case, last_k) = self.dice.pick(&[(1, 14), (2, 6)]);
         let k = self.dice.between(0, last_k);
-        let long_count = self.dice.pick(&[0, 0, 8, 16]);
+        let long_count = self.dice.pick(&[0, 4, 8, 16]);
         let short_count = self.dice.pick(&[0, 0, 3, 6]);
         format!("open {seat} {cell} {case} {k} {long_count} {short_count}")
     }
 
-    /// A booking that is accepted, or only lacks room, if a few attempts find one.
+    /// A booking that is accepted, or only lacks room, if a few attempts find one; now and then with any user in place
+    /// of its own.
     fn aimed_booking(&mut self, seat: u32, settings: Settings, held: &[Record]) -> String {
         let at_beacons = self.manners.at_beacons;
         let mut record = aimed(&mut self.dice, at_beacons, settings, held);
@@ -233,6 +234,9 @@ impl Writer<'_> {
                 break;
             }
             record = aimed(&mut self.dice, at_beacons, settings, held);
+        }
+        if self.dice.one_in(12) {
+            record = with_any_user(&mut self.dice, record);
         }
         format!("book {seat} {}", record.words())
     }

@@ -1,16 +1,17 @@
-//! Document 01, "Refusal numbers", with what document 02 adds to them: 22.
+//! Document 01, "Refusal numbers", with what document 02 mends in them, 3, 4 and 16, and adds to them, 22.
 //!
 //! A call tests its own conditions from the lowest number upwards, so the first one that holds is the lowest.
 
 /// What a call gives back: a value, or the number of the refusal.
 pub type Answer<T> = Result<T, u32>;
 
-/// The table's column "Condition", from number 1 on. Document 02 gives 22 no words; docs/LESSONS.md does.
+/// The table's column "Condition", from number 1 on. Document 02 gives no words for 3, 4, 16 and 22; docs/LESSONS.md
+/// does.
 const CONDITIONS: [&str; 22] = [
     "cell parameter above 127",
     "burst type not 1, 2 or 3",
-    "midamble count not 8 or 16 (types 1, 3), not 3 or 6 (type 2); in opening a seat 0 is allowed too",
-    "user outside 1..count (in a booking: outside 1..16 for types 1, 3; 1..6 for type 2)",
+    "midamble count not 4, 8 or 16 (types 1, 3), not 3 or 6 (type 2); in opening a seat 0 is allowed too",
+    "user not permitted under the count (in a booking: outside 1..16 for types 1, 3; 1..6 for type 2)",
     "timeslot above 14",
     "spreading factor not 1, 2, 4, 8, 16; code index outside 1..factor; where a direction is given, downlink with a factor other than 1 or 16",
     "type 3 in downlink",
@@ -22,7 +23,7 @@ const CONDITIONS: [&str; 22] = [
     "seat above 15",
     "seat not open",
     "seat open already",
-    "user above this seat's count",
+    "user not permitted under this seat's count",
     "clash inside this seat's own cell",
     "beacon rule",
     "seat holds 40",

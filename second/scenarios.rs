@@ -13,7 +13,8 @@ pub fn all(put: Put) -> io::Result<()> {
     bookings(put)?;
     kept_bookings(put)?;
     burst_types(put)?;
-    types_1_and_3(put)
+    types_1_and_3(put)?;
+    users(put)
 }
 
 /// Seat 3 of "Figures to check".
@@ -64,8 +65,8 @@ fn openings(put: Put) -> io::Result<()> {
     for cell in [0, 127, 128, LARGEST] {
         for case in [0, 1, 2, 3] {
             for k in [0, 6, 7, 14, 15] {
-                for long_count in [0, 3, 8, 9, 16] {
-                    for short_count in [0, 3, 6, 8] {
+                for long_count in [0, 2, 3, 4, 5, 8, 9, 16] {
+                    for short_count in [0, 3, 4, 6, 8] {
                         put(format!("open 2 {cell} {case} {k} {long_count} {short_count}"))?;
                         put("close 2".to_string())?;
                     }
@@ -88,16 +89,22 @@ fn bookings(put: Put) -> io::Result<()> {
     let opened = open(put, opened, 6, [8, 1, 14, 16, 6])?;
     for seat in [4, 5, 6, 16] {
         for record in records() {
-            put(format!("book {seat} {}", record.words()))?;
-            if opened.booking_refusals(seat, &record).is_ok() {
-                put(format!("list {seat}"))?;
-                let Record { timeslot, factor, index, .. } = record;
-                put(format!("cancel {seat} {timeslot} {factor} {index}"))?;
-            }
+            by_itself(put, &opened, seat, record)?;
         }
     }
     put("close 5".to_string())?;
     put("close 6".to_string())
+}
+
+/// A booking on the book as the openings left it: one that is accepted is listed and cancelled.
+fn by_itself(put: Put, opened: &Book, seat: u32, record: Record) -> io::Result<()> {
+    put(format!("book {seat} {}", record.words()))?;
+    if opened.booking_refusals(seat, &record).is_ok() {
+        put(format!("list {seat}"))?;
+        let Record { timeslot, factor, index, .. } = record;
+        put(format!("cancel {seat} {timeslot} {factor} {index}"))?;
+    }
+    Ok(())
 }
 
 /// An opening, on the lesson's book and on the one given.
@@ -229,4 +236,44 @@ fn types_1_and_3(put: Put) -> io::Result<()> {
     (1..=14).try_for_each(|timeslot| put(format!("book 8 {timeslot} up 2 16 16 6 0 0")))?;
     put("list 8".to_string())?;
     put("close 8".to_string())
+}
+
+/// Users under the counts of seat 10, each long count with each short one. The seat is closed and opened anew for every
+/// two of them.
+fn users(put: Put) -> io::Result<()> {
+    for long_count in [0, 4, 8, 16] {
+        for short_count in [0, 3, 6] {
+            let opened = open(put, Book::empty(), 10, [10, 1, 4, long_count, short_count])?;
+            for record in records_of_users() {
+                by_itself(put, &opened, 10, record)?;
+            }
+            put("close 10".to_string())?;
+        }
+    }
+    Ok(())
+}
+
+/// Every burst type with every user and those just outside: uplink in the ordinary timeslot 5, and downlink in the
+/// beacon timeslot 4, there with the code that is user 1's and with another.
+fn records_of_users() -> Vec<Record> {
+    let mut records = Vec::new();
+    for (timeslot, direction, index) in
+        [(5, Direction::Up, 3), (4, Direction::Down, 1), (4, Direction::Down, 3)]
+    {
+        for burst_type in [1, 2, 3] {
+            for user in (0..=18).chain([LARGEST]) {
+                records.push(Record {
+                    timeslot,
+                    direction,
+                    burst_type,
+                    factor: 16,
+                    index,
+                    user,
+                    tfci_bits: 0,
+                    tpc_bits: 0,
+                });
+            }
+        }
+    }
+    records
 }

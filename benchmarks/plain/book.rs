@@ -1,6 +1,7 @@
 //! The class book: the same layout and the same tests of the whole book as the library's. A book goes in and comes
 //! back by value; inside, references.
 
+use super::midambles::{good_count, permitted};
 use library::{MqAnswer, MqBook, MqBookAnswer, BOOK_BYTES};
 use std::mem::{align_of, size_of};
 
@@ -185,7 +186,7 @@ fn settings_refusal(cell: u32, long: u32, short: u32, sync: u32, k: u32) -> u32 
     if cell > 127 {
         return 1;
     }
-    if !matches!(long, 8 | 16) || !matches!(short, 3 | 6) {
+    if !good_count(1, long) || !good_count(2, short) {
         return 3;
     }
     if !((sync == 1 && k <= 14) || (sync == 2 && k <= 6)) {
@@ -225,8 +226,9 @@ impl Seat {
         self.held().saturating_sub(10)
     }
 
-    fn above_count(&self, x: &Booking) -> bool {
-        x.user > if x.burst == 2 { self.short } else { self.long }
+    fn not_permitted(&self, x: &Booking) -> bool {
+        let count = if x.burst == 2 { self.short } else { self.long };
+        !permitted(count as u32, x.user as u32)
     }
 
     fn is_beacon(&self, t: u8) -> bool {
@@ -265,7 +267,7 @@ impl Seat {
             && self
                 .bookings()
                 .iter()
-                .all(|x| x.well_formed() && !self.above_count(x) && !self.off_beacon(x))
+                .all(|x| x.well_formed() && !self.not_permitted(x) && !self.off_beacon(x))
             && self.bookings().windows(2).all(|w| w[0].key() < w[1].key() && !w[0].clashes(&w[1]))
             && self.row[self.held()..].iter().all(|x| *x == BLANK)
     }
@@ -325,7 +327,7 @@ impl Book {
             return refusal;
         }
         let s = &self.seats[seat as usize];
-        if s.above_count(&x) {
+        if s.not_permitted(&x) {
             return 16;
         }
         if s.bookings().iter().any(|y| x.clashes(y)) {

@@ -27,14 +27,29 @@ pub fn user_refusal(cell: u32, burst: u32, count: u32, user: u32) -> u32 {
     if burst < 1 || burst > 3 {
         return 2;
     }
-    let base = code_of(burst).base;
-    if count != base && count != 2 * base {
+    if !good_count(burst, count) {
         return 3;
     }
-    if user < 1 || user > count {
+    if !permitted(count, user) {
         return 4;
     }
     0
+}
+
+pub fn good_count(burst: u32, count: u32) -> bool {
+    if burst == 2 {
+        matches!(count, 3 | 6)
+    } else {
+        matches!(count, 4 | 8 | 16)
+    }
+}
+
+/// Whether a count permits a user; the count is a good one.
+pub fn permitted(count: u32, user: u32) -> bool {
+    if count == 4 {
+        return user < 8 && user % 2 == 1;
+    }
+    1 <= user && user <= count
 }
 
 pub fn shift(c: &Code, user: u32) -> u32 {

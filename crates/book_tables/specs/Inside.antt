@@ -9,7 +9,7 @@ use Rattle.conditions.specs.Conditions.{badTimeslot, badCode}
 use Rattle.tables.specs.Tables.{settingsRefusals}
 use Rattle.bookings.specs.declared.Booking.{Booking}
 use Rattle.seats.specs.declared.Seat.{Seat}
-use Rattle.seats.specs.Conditions.{aboveCount, clashesWith, offBeacon}
+use Rattle.seats.specs.Conditions.{notPermitted, clashesWith, offBeacon}
 use Rattle.seats.specs.Seats.{held, bookings}
 
 -- of opening a seat that is open already, or not
@@ -18,7 +18,7 @@ openRows ok seat live cell case k long short = settingsRefusals cell case k long
 
 -- of a booking, by what the tests of its own seat gave: 16 to 20
 unfoldable pub ownRows : Bool → Bool → Bool → Bool → Bool → Refusals
-ownRows above clash off full out = (16, above) ∷ (17, clash) ∷ (18, off) ∷ (19, full) ∷ (20, out) ∷ []
+ownRows barred clash off full out = (16, barred) ∷ (17, clash) ∷ (18, off) ∷ (19, full) ∷ (20, out) ∷ []
 
 -- of a booking in the seat s, its own numbers passed
 unfoldable pub bookingRows : Bool → ℕ → ℕ → Seat → Booking → Refusals
@@ -26,7 +26,7 @@ bookingRows ok used seat s x =
     (12, not ok) ∷
     (13, ltb 15 seat) ∷
     (14, not (s .live)) ∷
-    (16, aboveCount (s .long) (s .short) x) ∷
+    (16, notPermitted (s .long) (s .short) x) ∷
     (17, clashesWith (bookings s) x) ∷
     (18, offBeacon (s .case) (s .k) x) ∷
     (19, eqb (held s) 40) ∷

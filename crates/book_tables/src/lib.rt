@@ -73,10 +73,10 @@ fn used_up(held: usize, used: usize) -> bool
 }
 
 // Of a booking: what stands against it in its own seat, behind the refusal n that was given so far.
-fn own_refusal(n: u32, above: bool, clash: bool, off: bool, full: bool, out: bool) -> u32
-    ensures { λ r. ⌜ r ≡ rowByRow n (ownRows above clash off full out) ⌝ }
+fn own_refusal(n: u32, barred: bool, clash: bool, off: bool, full: bool, out: bool) -> u32
+    ensures { λ r. ⌜ r ≡ rowByRow n (ownRows barred clash off full out) ⌝ }
 {
-    let n = refusals::or_refused(n, 16, above);
+    let n = refusals::or_refused(n, 16, barred);
     let n = refusals::or_refused(n, 17, clash);
     let n = refusals::or_refused(n, 18, off);
     let n = refusals::or_refused(n, 19, full);
@@ -89,12 +89,12 @@ pub fn booking_refusal(ok: bool, used: usize, seat: u32, s: Seat, x: Booking) ->
 {
     let row = s.row;
     let held = seats::held_by(s.count);
-    let above = seats::rules::above_count(s.long, s.short, x);
+    let barred = seats::rules::not_permitted(s.long, s.short, x);
     let clash = seats::rules::clashes_any(row, held, x);
     let off = seats::rules::off_beacon(s.case, s.k, x);
     let out = used_up(held, used);
     let n = seat_refusal(ok, seat, s.live);
-    own_refusal(n, above, clash, off, held == 40, out)
+    own_refusal(n, barred, clash, off, held == 40, out)
 }
 
 // Of cancelling, where the seat has none that is named, or has one.

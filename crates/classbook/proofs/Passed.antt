@@ -17,7 +17,7 @@ use Rattle.bookings.specs.declared.Booking.{Booking}
 use Rattle.conditions.specs.Conditions.{badTimeslot, badCode}
 use Rattle.tables.specs.Tables.{formRefusals, settingsRefusals}
 use Rattle.bookings.specs.Bookings.{formOf}
-use Rattle.seats.specs.Conditions.{aboveCount, offBeacon, clashesWith}
+use Rattle.seats.specs.Conditions.{notPermitted, offBeacon, clashesWith}
 use Rattle.seats.specs.Seats.{closed, held, bookings, stands, standsIn, seatOk}
 use Rattle.classbook.specs.declared.Book.{Book}
 use Rattle.classbook.specs.declared.Request.{Request}
@@ -35,7 +35,7 @@ pub record BookingPassed (b : Book) (seat : ℕ) (x : Booking) : Type 0 where
   pub valid : bookOk b ≡ true
   pub seat-low : seat ≤ 15
   pub live : seatOf b seat .live ≡ true
-  pub below : aboveCount (seatOf b seat .long) (seatOf b seat .short) x ≡ false
+  pub permits : notPermitted (seatOf b seat .long) (seatOf b seat .short) x ≡ false
   pub clear : clashesWith (bookings (seatOf b seat)) x ≡ false
   pub rules : offBeacon (seatOf b seat .case) (seatOf b seat .k) x ≡ false
   pub few : held (seatOf b seat) < 40
@@ -48,7 +48,7 @@ booking-passed b seat x e =
     let r12 = first-none 11 (badBook b) _ e in
     let r13 = first-none 12 (badSeat seat) _ (r12 .1) in
     let r14 = first-none 13 (notOpen b seat) _ (r13 .1) in
-    let r16 = first-none 15 (aboveCount (s .long) (s .short) x) _ (r14 .1) in
+    let r16 = first-none 15 (notPermitted (s .long) (s .short) x) _ (r14 .1) in
     let r17 = first-none 16 (clashesWith (bookings s) x) _ (r16 .1) in
     let r18 = first-none 17 (offBeacon (s .case) (s .k) x) _ (r17 .1) in
     let r19 = first-none 18 (seatFull s) _ (r18 .1) in
@@ -58,7 +58,7 @@ booking-passed b seat x e =
       valid = not-false (bookOk b) (r12 .0);
       seat-low = ltb-false 15 seat (r13 .0);
       live = not-false (s .live) (r14 .0);
-      below = r16 .0;
+      permits = r16 .0;
       clear = r17 .0;
       rules = r18 .0;
       few = below-forty (held s) (omega arith) no-forty;
@@ -143,4 +143,4 @@ book-passed b seat x e =
     let form = append-front (requestRefusals x) (bookingRefusals b seat (asBooking x)) numbers e in
     let rest = sym (append-passes (requestRefusals x) (bookingRefusals b seat (asBooking x)) numbers form) ∙ e in
     let p = booking-passed b seat (asBooking x) rest in
-    record { booking = p; standing = simp (eq-eqb _ 0 form, p .below, p .rules) }
+    record { booking = p; standing = simp (eq-eqb _ 0 form, p .permits, p .rules) }

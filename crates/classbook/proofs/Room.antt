@@ -10,7 +10,7 @@ use borrow.Author.Tests.{eq-eqb, ne-eqb, le-leb, lt-leb, le-ltb}
 use Rattle.refusals.specs.Refusals.{firstOf}
 use Rattle.refusals.proofs.First.{numbered, append-passes}
 use Rattle.tables.specs.Tables.{formRefusals}
-use Rattle.seats.specs.Conditions.{aboveCount, offBeacon, clashesWith}
+use Rattle.seats.specs.Conditions.{notPermitted, offBeacon, clashesWith}
 use Rattle.seats.specs.Seats.{held, bookings}
 use Rattle.classbook.specs.declared.Book.{Book}
 use Rattle.classbook.specs.declared.Request.{Request}
@@ -24,7 +24,7 @@ pub record Bookable (b : Book) (seat : ℕ) (x : Request) : Type 0 where
   pub valid : bookOk b ≡ true
   pub seat-low : seat ≤ 15
   pub live : seatOf b seat .live ≡ true
-  pub below : aboveCount (seatOf b seat .long) (seatOf b seat .short) (asBooking x) ≡ false
+  pub permits : notPermitted (seatOf b seat .long) (seatOf b seat .short) (asBooking x) ≡ false
   pub clear : clashesWith (bookings (seatOf b seat)) (asBooking x) ≡ false
   pub rules : offBeacon (seatOf b seat .case) (seatOf b seat .k) (asBooking x) ≡ false
 
@@ -45,7 +45,7 @@ module _ (b : Book) (seat : ℕ) (x : Request) (fit : Bookable b seat x) where
   unfolding bookAnswer bookRefusals bookingRefusals badBook badSeat notOpen firstOf
   left full used ef eu n e =
       append-passes (requestRefusals x) (bookingRefusals b seat (asBooking x)) request-numbered (fit .form)
-      ∙ simp (fit .valid, le-ltb 15 seat (fit .seat-low), fit .live, fit .below, fit .clear, fit .rules, ef, eu) e
+      ∙ simp (fit .valid, le-ltb 15 seat (fit .seat-low), fit .live, fit .permits, fit .clear, fit .rules, ef, eu) e
 
   -- "a seat with n bookings is refused 19 if n is 40"
   pub refused-19 : held (seatOf b seat) ≡ 40 → bookAnswer b seat x .refusal ≡ 19

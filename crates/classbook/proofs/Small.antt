@@ -3,40 +3,24 @@
 use mathlib.Core.Path.{_≡_}
 use mathlib.Core.Logic.{⊎-elim}
 use mathlib.Core.Bool.{Bool, true, false, cond, not, _&&_, _||_}
-use mathlib.Core.List.{[]}
+use mathlib.Core.List.{[], _∷_}
 use Prim.Native.Nat.{ℕ, _≤_}
 use native.Mathlib.Omega.{arith}
 use lib.Dec.{eqb, ltb, lit≤}
-use borrow.Author.Tests.{ltb-false, eqb-true, not-false}
+use borrow.Author.Tests.{ltb-false, not-false}
 use Rattle.laws.proofs.Bools.{or-false}
 use Rattle.conditions.specs.Conditions.{badType, isDown, badFactor, badDownFactor, badDownType, badControl, badCell, badCount, badBeacon, badBookedUser, badTimeslot, badCode}
 use Rattle.tables.specs.Tables.{formRefusals, settingsRefusals}
 use Rattle.refusals.specs.Refusals.{firstOf}
 use Rattle.refusals.proofs.First.{first-none}
-use Rattle.laws.proofs.Cases.{either}
+use Rattle.laws.proofs.Cases.{either, one-of}
 use Rattle.classbook.specs.declared.Request.{Request}
 use Rattle.classbook.specs.Calls.{requestRefusals}
 
--- one of two numbers, and one of five
-of-two : (n a b m : ℕ) → a ≤ m → b ≤ m → (eqb n a || eqb n b) ≡ true → n ≤ m
-of-two n a b m ha hb e = ⊎-elim (λ t. omega (arith, eqb-true n a t)) (λ t. omega (arith, eqb-true n b t)) (either (eqb n a) (eqb n b) e)
-
-of-five : (n a b c d f m : ℕ) → a ≤ m → b ≤ m → c ≤ m → d ≤ m → f ≤ m → (eqb n a || eqb n b || eqb n c || eqb n d || eqb n f) ≡ true → n ≤ m
-of-five n a b c d f m ha hb hc hd hf e = ⊎-elim four (equals f hf) (either (eqb n a || eqb n b || eqb n c || eqb n d) (eqb n f) e)
-  where
-    equals : (q : ℕ) → q ≤ m → eqb n q ≡ true → n ≤ m
-    equals q h t = omega (arith, eqb-true n q t)
-
-    three : (eqb n a || eqb n b || eqb n c) ≡ true → n ≤ m
-    three e = ⊎-elim (of-two n a b m ha hb) (equals c hc) (either (eqb n a || eqb n b) (eqb n c) e)
-
-    four : (eqb n a || eqb n b || eqb n c || eqb n d) ≡ true → n ≤ m
-    four e = ⊎-elim three (equals d hd) (either (eqb n a || eqb n b || eqb n c) (eqb n d) e)
-
 -- a count that is not refused is at most 16
-count-by : (b : Bool) (count : ℕ) → cond b (not (eqb count 3 || eqb count 6)) (not (eqb count 8 || eqb count 16)) ≡ false → count ≤ 16
-count-by true count e = of-two count 3 6 16 (lit≤ tt) (lit≤ tt) (not-false _ e)
-count-by false count e = of-two count 8 16 16 (lit≤ tt) (lit≤ tt) (not-false _ e)
+count-by : (b : Bool) (count : ℕ) → cond b (not (eqb count 3 || eqb count 6)) (not (eqb count 4 || eqb count 8 || eqb count 16)) ≡ false → count ≤ 16
+count-by true count e = one-of (λ q. q ≤ 16) count 3 (6 ∷ []) (lit≤ tt, (lit≤ tt, tt)) (not-false _ e)
+count-by false count e = one-of (λ q. q ≤ 16) count 4 (8 ∷ 16 ∷ []) (lit≤ tt, (lit≤ tt, (lit≤ tt, tt))) (not-false _ e)
 
 count-high : (burst count : ℕ) → badCount burst count ≡ false → count ≤ 16
 unfolding badCount
@@ -48,7 +32,7 @@ case-high case k e =
     let a = or-false (not (eqb case 1 || eqb case 2) || (eqb case 1 && ltb 14 k)) (eqb case 2 && ltb 6 k) e in
     let b = or-false (not (eqb case 1 || eqb case 2)) (eqb case 1 && ltb 14 k) (a .0) in
     let one-or-two = not-false (eqb case 1 || eqb case 2) (b .0) in (
-      of-two case 1 2 2 (lit≤ tt) (lit≤ tt) one-or-two,
+      one-of (λ q. q ≤ 2) case 1 (2 ∷ []) (lit≤ tt, (lit≤ tt, tt)) one-or-two,
       ⊎-elim (λ t. ltb-false 14 k (rest (eqb case 1) (ltb 14 k) t (b .1))) (λ t. low (ltb-false 6 k (rest (eqb case 2) (ltb 6 k) t (a .1)))) (either (eqb case 1) (eqb case 2) one-or-two),
     )
   where
@@ -114,7 +98,7 @@ request-small x e =
     let control = or-false (not (eqb (x .tfci) 0 || eqb (x .tfci) 4 || eqb (x .tfci) 8 || eqb (x .tfci) 16 || eqb (x .tfci) 32) || not (eqb (x .tpc) 0 || eqb (x .tpc) 2)) (isDown (x .direction) && eqb (x .tpc) 2) (eight .0) in
     let bits = or-false (not (eqb (x .tfci) 0 || eqb (x .tfci) 4 || eqb (x .tfci) 8 || eqb (x .tfci) 16 || eqb (x .tfci) 32)) (not (eqb (x .tpc) 0 || eqb (x .tpc) 2)) (control .0) in
     let burst-in = or-false (ltb (x .burst) 1) (ltb 3 (x .burst)) (two .0) in
-    let f = of-five (x .factor) 1 2 4 8 16 16 (lit≤ tt) (lit≤ tt) (lit≤ tt) (lit≤ tt) (lit≤ tt) (not-false _ (split .0)) in
+    let f = one-of (λ q. q ≤ 16) (x .factor) 1 (2 ∷ 4 ∷ 8 ∷ 16 ∷ []) (lit≤ tt, (lit≤ tt, (lit≤ tt, (lit≤ tt, (lit≤ tt, tt))))) (not-false _ (split .0)) in
     let i = ltb-false (x .factor) (x .index) (inside .1) in
     record {
       timeslot-high = omega (arith, ltb-false 14 (x .timeslot) (five .0));
@@ -122,6 +106,6 @@ request-small x e =
       factor-high = omega (arith, f);
       index-high = omega (arith, f, i);
       user-in = omega (arith, user-high (x .burst) (x .user) (four .0));
-      tfci-high = omega (arith, of-five (x .tfci) 0 4 8 16 32 32 (lit≤ tt) (lit≤ tt) (lit≤ tt) (lit≤ tt) (lit≤ tt) (not-false _ (bits .0)));
-      tpc-high = omega (arith, of-two (x .tpc) 0 2 2 (lit≤ tt) (lit≤ tt) (not-false _ (bits .1)));
+      tfci-high = omega (arith, one-of (λ q. q ≤ 32) (x .tfci) 0 (4 ∷ 8 ∷ 16 ∷ 32 ∷ []) (lit≤ tt, (lit≤ tt, (lit≤ tt, (lit≤ tt, (lit≤ tt, tt))))) (not-false _ (bits .0)));
+      tpc-high = omega (arith, one-of (λ q. q ≤ 2) (x .tpc) 0 (2 ∷ []) (lit≤ tt, (lit≤ tt, tt)) (not-false _ (bits .1)));
     }

@@ -10,7 +10,7 @@ use Rattle.bookings.specs.declared.Booking.{Booking}
 use Rattle.seats.specs.declared.Seat.{Seat}
 use Rattle.conditions.specs.Conditions.{badTimeslot, badCode}
 use Rattle.tables.specs.Tables.{formRefusals, settingsRefusals}
-use Rattle.seats.specs.Conditions.{aboveCount, clashesWith, offBeacon}
+use Rattle.seats.specs.Conditions.{notPermitted, clashesWith, offBeacon}
 use Rattle.seats.specs.Seats.{blank, closed, opened, held, bookings, insert, without, withPlan}
 use Rattle.classbook.specs.declared.Book.{Book}
 use Rattle.classbook.specs.declared.Request.{Request}
@@ -75,7 +75,7 @@ bookingRefusals b seat x =
     (12, badBook b) ∷
     (13, badSeat seat) ∷
     (14, notOpen b seat) ∷
-    (16, aboveCount (s .long) (s .short) x) ∷
+    (16, notPermitted (s .long) (s .short) x) ∷
     (17, clashesWith (bookings s) x) ∷
     (18, offBeacon (s .case) (s .k) x) ∷
     (19, seatFull s) ∷

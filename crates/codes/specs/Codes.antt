@@ -1,7 +1,8 @@
--- Document 01, "Training sequences": the numbers of both codes, and the users' shifts. Cited by the promises of this crate, by midambles and by signal_card.
--- Shifts are defined once, over the numbers of a code; long and short codes only fill them in. Assumes nothing.
-use mathlib.Core.Bool.{cond}
-use Prim.Native.Nat.{ℕ, _+_, _-_, _*_}
+-- Document 01, "Training sequences": the numbers of both codes, the users' shifts, and (document 02, C-13) the users that a count permits. Cited by the
+-- promises of this crate, by conditions, midambles and signal_card. Shifts and users are defined once, over the numbers of a code; long and short codes only
+-- fill them in. Assumes nothing.
+use mathlib.Core.Bool.{Bool, cond, _&&_, _||_}
+use Prim.Native.Nat.{ℕ, _+_, _-_, _*_, _%_}
 use lib.Dec.{eqb, ltb, leb}
 use Rattle.codes.specs.declared.Code.{Code}
 
@@ -23,3 +24,11 @@ shiftOf c k =
     cond (leb k (c .base))
     ((c .base - k) * c .step)
     (cond (ltb k (2 * c .base)) ((2 * c .base - k - 1) * c .step + c .half) ((c .base - 1) * c .step + c .half))
+
+-- Annex A: a count permits "all k=1,2,...,K; K=2K' or k=1,2,...,K', only, or odd k=1,3,5,...,≤K', only". It is how many it permits: 16, 8, 4 long, 6, 3 short.
+unfoldable pub permitted : Code → ℕ → ℕ → Bool
+permitted c count k =
+    leb 1 k
+    && ((eqb count (2 * c .base) && leb k (2 * c .base))
+    || (eqb count (c .base) && leb k (c .base))
+    || (eqb (2 * count) (c .base) && (leb k (c .base) && eqb (k % 2) 1)))

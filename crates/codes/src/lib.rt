@@ -1,6 +1,6 @@
-// The numbers of the two codes, and how far a user's midamble is shifted (document 01, "Training sequences").
+// The numbers of the two codes, how far a user's midamble is shifted (document 01, "Training sequences"), and which users a count permits (document 02, C-13).
 ghost use mathlib.Core.Path.{_≡_};
-ghost use Rattle.codes.specs.Codes.{codeOf, shiftOf};
+ghost use Rattle.codes.specs.Codes.{codeOf, shiftOf, permitted};
 
 // One line of document 01's table: period P, base users K', step W, half step, midamble length.
 pub struct Code {
@@ -48,4 +48,17 @@ pub fn shift(burst: u32, user: u32) -> u32
         return (2 * base - user - 1) * step + half;
     }
     (base - 1) * step + half
+}
+
+// Whether a count permits a user, by the code of the burst type: all up to K = 2K', those up to K', or the odd ones up to K'.
+pub fn permits(burst: u32, count: u32, user: u32) -> bool
+    ensures { λ r. ⌜ r ≡ permitted (codeOf burst) count user ⌝ }
+{
+    let c = code_of(burst);
+    let base = c.base;
+    let full = 2 * base;
+    let all = (count == full) & (user <= full);
+    let first = (count == base) & (user <= base);
+    let odd = (2 * (count as u64) == base as u64) & ((user <= base) & (user % 2 == 1));
+    (1 <= user) & (all | first | odd)
 }

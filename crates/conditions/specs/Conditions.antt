@@ -5,6 +5,7 @@ use mathlib.Core.List.{List}
 use Prim.Native.Nat.{ℕ, _*_}
 use lib.Dec.{eqb, ltb, leb}
 use lib.ListN.{length}
+use Rattle.codes.specs.Codes.{codeOf, permitted}
 use Rattle.conditions.specs.declared.Direction.{Direction}
 use Rattle.conditions.specs.declared.Direction.the-variants.{Up, Down}
 
@@ -21,13 +22,13 @@ badCell cell = ltb 127 cell
 unfoldable pub badType : ℕ → Bool
 badType burst = ltb burst 1 || ltb 3 burst
 
--- 3: "midamble count not 8 or 16 (types 1, 3), not 3 or 6 (type 2)"
+-- 3: "midamble count not 8 or 16 (types 1, 3), not 3 or 6 (type 2)"; document 02, C-13: "3 admits 4 for types 1 and 3"
 unfoldable pub badCount : ℕ → ℕ → Bool
-badCount burst count = cond (eqb burst 2) (not (eqb count 3 || eqb count 6)) (not (eqb count 8 || eqb count 16))
+badCount burst count = cond (eqb burst 2) (not (eqb count 3 || eqb count 6)) (not (eqb count 4 || eqb count 8 || eqb count 16))
 
--- 4: "user outside 1..count"
-unfoldable pub badUser : ℕ → ℕ → Bool
-badUser count user = ltb user 1 || ltb count user
+-- 4, where the call names the count: a user that it does not permit (document 02, C-13: "membership")
+unfoldable pub badUser : ℕ → ℕ → ℕ → Bool
+badUser burst count user = not (permitted (codeOf burst) count user)
 
 -- 4, in a booking: "outside 1..16 for types 1, 3; 1..6 for type 2"
 unfoldable pub badBookedUser : ℕ → ℕ → Bool

@@ -33,21 +33,21 @@ pub fn bad_type(burst: u32) -> bool
     (burst < 1) | (burst > 3)
 }
 
-// 3: the midamble count is not 8 or 16, of type 2 not 3 or 6.
+// 3: the midamble count is not 4, 8 or 16, of type 2 not 3 or 6.
 pub fn bad_count(burst: u32, count: u32) -> bool
     ensures { λ r. ⌜ r ≡ badCount burst count ⌝ }
 {
     if burst == 2 {
         return !((count == 3) | (count == 6));
     }
-    !((count == 8) | (count == 16))
+    !((count == 4) | (count == 8) | (count == 16))
 }
 
-// 4: the user is outside 1 to count.
-pub fn bad_user(count: u32, user: u32) -> bool
-    ensures { λ r. ⌜ r ≡ badUser count user ⌝ }
+// 4: the count does not permit the user.
+pub fn bad_user(burst: u32, count: u32, user: u32) -> bool
+    ensures { λ r. ⌜ r ≡ badUser burst count user ⌝ }
 {
-    (user < 1) | (user > count)
+    !codes::permits(burst, count, user)
 }
 
 // 4, in a booking: the user is outside 1 to 16, of type 2 outside 1 to 6.

@@ -16,7 +16,7 @@ use Rattle.bookings.specs.declared.Booking.{Booking}
 use Rattle.seats.specs.declared.Seat.{Seat}
 use Rattle.conditions.specs.Conditions.{badTimeslot, badCode}
 use Rattle.tables.specs.Tables.{settingsRefusals}
-use Rattle.seats.specs.Conditions.{aboveCount, clashesWith, offBeacon}
+use Rattle.seats.specs.Conditions.{notPermitted, clashesWith, offBeacon}
 use Rattle.seats.specs.Seats.{closed, bookings, insert, without, withPlan}
 use Rattle.classbook.specs.declared.Book.{Book}
 use Rattle.classbook.specs.Book.{seatOf, withSeat}
@@ -30,7 +30,7 @@ use Rattle.demand.specs.Lesson.{Call, opens, books, cancels, closes, lis
 -- those of a booking but the last
 abbrev pub bookTable : Bool → Seat → ℕ → Booking → Refusals
 bookTable bad s i x =
-    (12, bad) ∷ (13, badSeat i) ∷ (14, not (s .live)) ∷ (16, aboveCount (s .long) (s .short) x) ∷ (17, clashesWith (bookings s) x) ∷
+    (12, bad) ∷ (13, badSeat i) ∷ (14, not (s .live)) ∷ (16, notPermitted (s .long) (s .short) x) ∷ (17, clashesWith (bookings s) x) ∷
     (18, offBeacon (s .case) (s .k) x) ∷ (19, seatFull s) ∷ []
 
 abbrev pub table : Bool → Bool → Seat → ℕ → Call → Refusals

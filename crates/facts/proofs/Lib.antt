@@ -2,6 +2,8 @@ pub mod Orders
 pub mod Replies
 pub mod Calls
 pub mod Sequences
+pub mod Permitted
+pub mod Shifts
 pub mod SignalCard
 pub mod Fields
 pub mod Room

@@ -16,7 +16,7 @@ use Rattle.refusals.proofs.First.{after-answered}
 use Rattle.bookings.specs.declared.Booking.{Booking}
 use Rattle.bookings.specs.Bookings.{clash}
 use Rattle.seats.specs.declared.Seat.{Seat}
-use Rattle.seats.specs.Conditions.{aboveCount, clashesWith, offBeacon}
+use Rattle.seats.specs.Conditions.{notPermitted, clashesWith, offBeacon}
 use Rattle.seats.specs.Seats.{closed, held, bookings, without, withPlan}
 use Rattle.plans.specs.Inside.{placeNamed}
 use Rattle.plans.proofs.Named.{placed-or-none}
@@ -36,17 +36,17 @@ use Rattle.classbook.proofs.Room.{Bookable, refused-19, accepted-tens, accepted
 -- ---- nothing but perhaps room stands against a request that the seat as it is then lets in
 bookable : (c : Book) (seat : ℕ) (x : Request) (t : Seat) → seatOf c seat ≡ t → bookOk c ≡ true
     → seat ≤ 15 → firstOf (requestRefusals x) ≡ 0 → t .live ≡ true
-    → aboveCount (t .long) (t .short) (asBooking x) ≡ false
+    → notPermitted (t .long) (t .short) (asBooking x) ≡ false
     → clashesWith (bookings t) (asBooking x) ≡ false
     → offBeacon (t .case) (t .k) (asBooking x) ≡ false → Bookable c seat x
-bookable c seat x t same valid low form live below clear rules =
+bookable c seat x t same valid low form live permits clear rules =
     let y = asBooking x in
     record {
       form = form;
       valid = valid;
       seat-low = low;
       live = ap (λ (u : Seat). u .live) same ∙ live;
-      below = ap (λ (u : Seat). aboveCount (u .long) (u .short) y) same ∙ below;
+      permits = ap (λ (u : Seat). notPermitted (u .long) (u .short) y) same ∙ permits;
       clear = ap (λ (u : Seat). clashesWith (bookings u) y) same ∙ clear;
       rules = ap (λ (u : Seat). offBeacon (u .case) (u .k) y) same ∙ rules;
     }
@@ -67,7 +67,7 @@ module _ (c : Book) (left : common c < 80) where
   taken-then b other x valid same fit e =
       accepted-room c other x
       (bookable c other x (seatOf b other) same valid (fit .seat-low) (fit .form) (fit .live)
-      (fit .below) (fit .clear) (fit .rules))
+      (fit .permits) (fit .clear) (fit .rules))
       (omega (arith, ap (λ (t : Seat). held t) same, not-full)) not-used
     where
       not-full : held (seatOf b other) ≡ 40 → ⊥
@@ -166,7 +166,7 @@ module _ (b : Book) (sized : Sized b) (seat timeslot factor index : ℕ)
   unfolding withPlan
   own-bookable x fit =
       bookable c seat x (withPlan s rest) own-left valid-left (fit .seat-low) (fit .form)
-      (fit .live) (fit .below) (own-clear (asBooking x) (fit .clear)) (fit .rules)
+      (fit .live) (fit .permits) (own-clear (asBooking x) (fit .clear)) (fit .rules)
 
   -- and one of the learner's own is, whether it was refused 19 or 20 till then: with fewer than 10
   -- left it needs no common room

@@ -2,66 +2,53 @@
 -- answered question goes beyond and one reads, and "The users above K' exist only when the count is
 -- 16 (or 6)". No function's proof cites it: it is for the reader. Assumes nothing.
 use mathlib.Core.Path.{_≡_, refl, sym, ap, _∙_}
-use mathlib.Core.Bool.{Bool, true, false, cond, not, _||_}
+use mathlib.Core.Bool.{Bool, true, false, cond, _||_}
 use mathlib.Core.List.{List, [], _∷_, _++_}
 use mathlib.Core.Logic.{_↔_, ⊎-elim}
 use Prim.Native.Nat.{ℕ, suc, _+_, _*_, _<_, _≤_}
 use native.Mathlib.Omega.{arith}
 use lib.Dec.{eqb, ltb, lit≤}
-use borrow.Author.Tests.{le-ltb, ltb-false, eqb-true, not-false}
+use borrow.Author.Tests.{ltb-false, not-false}
 use Rattle.laws.proofs.Bools.{or-false}
-use Rattle.laws.proofs.Cases.{either}
 use Rattle.refusals.specs.Refusals.{firstOf, answer, answered}
 use Rattle.refusals.proofs.First.{first-none, first-passes, append-none, append-passes}
 use Rattle.refusals.proofs.First.{answer-answered}
 use Rattle.conditions.specs.Conditions.{badCell, badType, badCount, badUser}
 use Rattle.conditions.specs.Conditions.{badMidambleChip, tooShort}
 use Rattle.tables.specs.Tables.{userRefusals}
-use Rattle.codes.specs.Codes.{short, long, codeOf, shiftOf}
+use Rattle.codes.specs.Codes.{short, long, codeOf, shiftOf, permitted}
 use Rattle.codes.proofs.Numbers.{lastOf, reads-within, last-elements}
+use Rattle.codes.proofs.Permitted.{user-low, setting, permitted-all}
 use Rattle.midambles.specs.TrainingSequences.{chipOf}
 use Rattle.midambles.specs.Calls.{chipRefusals, chipAnswer, midambleRefusals, midambleOutcome}
 use Rattle.refusals.proofs.First.{answer-given}
 use Rattle.facts.specs.Orders.{answerOf}
+use Rattle.facts.proofs.Permitted.{count-given}
 use Rattle.facts.specs.Sequences.{elementRead, elementOf, lastElement}
 
 -- ---- which questions are answered
 
--- what a question that is not refused is known by
+-- the user of a question that is not refused is permitted
 module _ (cell burst count user : ℕ) (e : firstOf (userRefusals cell burst count user) ≡ 0) where
-  behind-two : firstOf ((3, badCount burst count) ∷ (4, badUser count user) ∷ []) ≡ 0
-  unfolding userRefusals
-  behind-two = first-none 1 _ _ (first-none 0 _ _ e .1) .1
-
-  count-given : badCount burst count ≡ false
-  count-given = first-none 2 _ _ behind-two .0
-
-  user-given : (1 ≤ user) × (user ≤ count)
-  unfolding badUser
+  user-given : permitted (codeOf burst) count user ≡ true
+  unfolding userRefusals badUser
   user-given =
-      let four = first-none 3 _ _ (first-none 2 _ _ behind-two .1) .0 in
-      let within = or-false (ltb user 1) (ltb count user) four in
-      (ltb-false user 1 (within .0), ltb-false count user (within .1))
+      let one = first-none 0 (badCell cell) _ e in
+      let two = first-none 1 (badType burst) _ (one .1) in
+      let three = first-none 2 (badCount burst count) _ (two .1) in
+      not-false _ (first-none 3 (badUser burst count user) [] (three .1) .0)
 
 -- a question of cell and type that pass 1 and 2, and of the whole count 2K'
 module _ (cell burst : ℕ) (one : badCell cell ≡ false) (two : badType burst ≡ false) where
   abbrev full : ℕ
   full = 2 * codeOf burst .base
 
-  full-count : badCount burst full ≡ false
-  unfolding badCount codeOf
-  full-count = by (eqb burst 2)
-    where
-      by : (b : Bool) → (let K = 2 * (cond b short long) .base in
-          cond b (not (eqb K 3 || eqb K 6)) (not (eqb K 8 || eqb K 16))) ≡ false
-      by true = refl
-      by false = refl
-
   full-passes : (user : ℕ) → 1 ≤ user → user ≤ full
       → firstOf (userRefusals cell burst full user) ≡ 0
   unfolding userRefusals firstOf badUser
   full-passes user low high =
-      rw (one, two, full-count, le-ltb user 1 low, le-ltb full user high) refl
+      let given = permitted-all (codeOf burst) user low high in
+      rw (one, two, count-given burst full user given, given) refl
 
   -- with one refusal behind them that does not hold either: 10 of a chip, 11 of a whole midamble
   full-passes-with : (user n : ℕ) (last : Bool) → 1 ≤ user → user ≤ full → last ≡ false
@@ -102,7 +89,8 @@ module _ (cell burst count user i p : ℕ)
   unfolding badMidambleChip elementRead
   reads-to-last =
       let inside = or-false (ltb i 1) (ltb (codeOf burst .length) i) (passes .1) in
-      let low = user-given cell burst count user (passes .0) .0 in
+      let given = user-given cell burst count user (passes .0) in
+      let low = user-low (codeOf burst) count user given in
       rw (← last-of burst) (reads-within (codeOf burst) user i low (ltb-false _ i (inside .1)))
 
 -- and the last is read, in every cell and with every type: by the last chip of the last user
@@ -143,25 +131,14 @@ module _ (cell burst : ℕ) (one : badCell cell ≡ false) (two : badType burst 
 
 -- ---- the users above K'
 
--- a count that is not refused, of a user above K' that is not refused, is 2K'
-count-full : (b : Bool) (count user : ℕ)
-    → cond b (not (eqb count 3 || eqb count 6)) (not (eqb count 8 || eqb count 16)) ≡ false
-    → (cond b short long) .base < user → user ≤ count → count ≡ 2 * (cond b short long) .base
-count-full true count user c above high =
-    ⊎-elim (λ e. let same = eqb-true count 3 e in absurd (omega arith)) (eqb-true count 6)
-    (either (eqb count 3) (eqb count 6) (not-false _ c))
-count-full false count user c above high =
-    ⊎-elim (λ e. let same = eqb-true count 8 e in absurd (omega arith)) (eqb-true count 16)
-    (either (eqb count 8) (eqb count 16) (not-false _ c))
-
 module _ (cell burst count user : ℕ) (above : codeOf burst .base < user) where
   -- "The users above K' exist only when the count is 16 (or 6)."
-  pub above-only : firstOf (userRefusals cell burst count user) ≡ 0 → count ≡ 2 * codeOf burst .base
-  unfolding badCount codeOf
+  pub above-only : firstOf (userRefusals cell burst count user) ≡ 0
+      → (count ≡ 2 * codeOf burst .base) × (user ≤ 2 * codeOf burst .base)
   above-only e =
-      let c = count-given cell burst count user e in
-      let u = user-given cell burst count user e in
-      count-full (eqb burst 2) count user c above (u .1)
+      ⊎-elim (λ all. all)
+      (⊎-elim (λ f. absurd (omega (arith, f .1))) (λ o. absurd (omega (arith, o .1 .0))))
+      (setting (codeOf burst) count user (user-given cell burst count user e))
 
 -- and with that count they do, K' + 1 to 2K': where nothing else is refused, such a user is
 -- answered exactly then
@@ -178,8 +155,7 @@ module _ (cell burst count user : ℕ) (one : badCell cell ≡ false) (two : bad
     λ g.
         let z = answer-given _ value (g .0) (g .1) .0 in
         let none = append-none (userRefusals cell burst count user) n last tt z .0 in
-        let full = above-only cell burst count user above none in
-        (full, omega (arith, full, user-given cell burst count user none .1)),
+        above-only cell burst count user above none,
     λ g.
         let z = full-passes-with cell burst one two user (suc n) last (omega arith) (g .1) e in
         (value, answer-answered _ value (rw (g .0) z)),

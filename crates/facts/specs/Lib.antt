@@ -1,3 +1,4 @@
 pub mod Orders
 pub mod Sequences
+pub mod Permitted
 pub mod Codes

@@ -10,7 +10,7 @@ use Rattle.tables.specs.Tables.{userRefusals, partsRefusals, pichRefusals, form
 use Rattle.refusals.specs.Refusals.{firstOf, answer, after}
 use Rattle.code_text.specs.LongText.{longText}
 use Rattle.code_text.specs.Rows.{longRows, bitAt}
-use Rattle.codes.specs.Codes.{codeOf, shiftOf}
+use Rattle.codes.specs.Codes.{codeOf, shiftOf, permitted}
 use Rattle.elements.specs.Elements.{rowsOf, turned, basic, element}
 use Rattle.midambles.specs.TrainingSequences.{chipOf, chipsOf}
 use Rattle.midambles.specs.Calls.{chipRefusals, midambleRefusals, chipAnswer, midambleOutcome}
@@ -21,7 +21,7 @@ use Rattle.paging.specs.Calls.{indicatorRefusals, indicatorAnswer}
 use Rattle.beacons.specs.Beacons.{beaconsOf, isBeacon}
 use Rattle.beacons.specs.Calls.{beaconRefusals, beaconAnswer}
 use Rattle.bookings.specs.Bookings.{formOf, leavesOf, firstLeaf, overlaps, sameDirection, mixed, clash, comes, fine, beaconRules, breaksBeacon}
-use Rattle.seats.specs.Conditions.{aboveCount, clashesWith, offBeacon}
+use Rattle.seats.specs.Conditions.{notPermitted, clashesWith, offBeacon}
 use Rattle.seats.specs.Seats.{isBlank, closed, goodSettings, stands, isBare, seatOk, rank, insert, withPlan}
 use Rattle.classbook.specs.Book.{emptyBook, seatOf, withSeat, common, bookOk}
 use Rattle.classbook.specs.Conditions.{badBook, badSeat, notOpen, isOpen, seatFull, roomUsedUp}
@@ -32,13 +32,13 @@ use Rattle.figures.specs.Figures.{Row, figures, opening, firstBooking, s
 pub starred-figures : map (λ (r : Row). r .0) figures ≡ map (λ (r : Row). r .1) figures
 unfolding figures opening firstBooking secondBooking run member every pairs total firstOf answer after badType
     longText longRows bitAt codeOf rowsOf turned basic element shiftOf chipOf chipsOf
-    badCell badCount badUser badMidambleChip tooShort userRefusals chipRefusals midambleRefusals chipAnswer midambleOutcome
+    permitted badCell badCount badUser badMidambleChip tooShort userRefusals chipRefusals midambleRefusals chipAnswer midambleOutcome
     isDown badFactor badDownFactor badDownType badControl
     fields fieldLength order controlChips chipsOfBits bitsOfChips tfciHalf tpcChips spans partLength partLengths sevenParts partsRefusals partsAnswer
     carryingOf halfOf placeOf badPich pichRefusals badFrames badNumber indicatorRefusals indicatorAnswer
     beaconsOf badBeacon isBeacon beaconRefusals beaconAnswer
     badBookedUser badTimeslot badCode formRefusals formOf leavesOf firstLeaf overlaps sameDirection mixed xor clash comes fine beaconRules breaksBeacon
-    isBlank closed settingsRefusals goodSettings aboveCount offBeacon stands clashesWith isBare seatOk rank insert withPlan
+    isBlank closed settingsRefusals goodSettings notPermitted offBeacon stands clashesWith isBare seatOk rank insert withPlan
     emptyBook seatOf withSeat common bookOk
     badBook badSeat notOpen isOpen seatFull roomUsedUp longCount shortCount openRefusals openSeat openAnswer
     asBooking requestRefusals bookingRefusals bookRefusals booked bookAnswer seatRefusals

@@ -40,7 +40,7 @@ fn opened_book(kinds: u32) -> Book
     let mut i: u32 = 0;
     while i < 16 {
         let j = i % kinds;
-        let a = classbook::open_seat(b, i, i, 1 + j % 2, j % 8, j % 3 * 8, j % 4 * 3);
+        let a = classbook::open_seat(b, i, i, 1 + j % 2, j % 8, j % 5 * 4, j % 4 * 3);
         b = a.book;
         i += 1;
     }

@@ -4,14 +4,15 @@ use mathlib.Core.Path.{_≡_, refl}
 use mathlib.Core.Bool.{xor}
 use Rattle.laws.specs.Lists.{member, every, pairs, total}
 use Rattle.refusals.specs.Refusals.{firstOf, after}
-use Rattle.conditions.specs.Conditions.{badType, badCell, badCount, isDown, badFactor}
+use Rattle.codes.specs.Codes.{codeOf, permitted}
+use Rattle.conditions.specs.Conditions.{badType, badCell, badCount, badUser, isDown, badFactor}
 use Rattle.conditions.specs.Conditions.{badDownFactor, badDownType, badControl, badBeacon}
 use Rattle.conditions.specs.Conditions.{badBookedUser, badTimeslot, badCode}
 use Rattle.tables.specs.Tables.{formRefusals, settingsRefusals}
 use Rattle.beacons.specs.Beacons.{beaconsOf, isBeacon}
 use Rattle.bookings.specs.Bookings.{formOf, leavesOf, firstLeaf, overlaps, sameDirection, mixed}
 use Rattle.bookings.specs.Bookings.{clash, comes, fine, beaconRules, breaksBeacon}
-use Rattle.seats.specs.Conditions.{aboveCount, clashesWith, offBeacon}
+use Rattle.seats.specs.Conditions.{notPermitted, clashesWith, offBeacon}
 use Rattle.seats.specs.Seats.{isBlank, closed, goodSettings, stands, isBare, seatOk}
 use Rattle.seats.specs.Seats.{rank, insert, withPlan}
 use Rattle.classbook.specs.Book.{emptyBook, seatOf, withSeat, planOf, common, bookOk}
@@ -28,10 +29,10 @@ use Rattle.limits.specs.Limits.{atThreeSeats, atWholeClass}
 pub computed :
     (seen (bookAfter threeSeats) ≡ atThreeSeats) × (seen (bookAfter wholeClass) ≡ atWholeClass)
 unfolding member every pairs total firstOf after
-    badType badCell badCount isDown badFactor badDownFactor badDownType badControl badBeacon
+    codeOf permitted badType badCell badCount badUser isDown badFactor badDownFactor badDownType badControl badBeacon
     badBookedUser badTimeslot badCode formRefusals settingsRefusals beaconsOf isBeacon
     formOf leavesOf firstLeaf overlaps sameDirection mixed xor clash comes fine beaconRules breaksBeacon
-    aboveCount clashesWith offBeacon isBlank closed goodSettings stands isBare seatOk
+    notPermitted clashesWith offBeacon isBlank closed goodSettings stands isBare seatOk
     rank insert withPlan emptyBook seatOf withSeat planOf common bookOk
     badBook badSeat notOpen isOpen seatFull roomUsedUp
     longCount shortCount openRefusals openSeat openAnswer

@@ -1,15 +1,14 @@
 -- What a call knows whose user was not refused. Cited by proofs/Answers.antt, the calls' proofs and the crate signal_card.
 -- Assumes nothing.
 use mathlib.Core.Path.{_≡_}
-use mathlib.Core.Bool.{Bool, true, false, cond, not, _||_}
 use mathlib.Core.List.{[], _∷_}
-use Prim.Native.Nat.{ℕ, _*_, _<_, _≤_}
+use Prim.Native.Nat.{ℕ, _<_, _≤_}
 use native.Mathlib.Omega.{arith}
-use lib.Dec.{eqb, ltb}
-use borrow.Author.Tests.{ltb-false}
-use Rattle.laws.proofs.Bools.{or-false}
+use borrow.Author.Tests.{ltb-false, not-false}
 use Rattle.conditions.specs.Conditions.{badType, badCell, badCount, badUser}
 use Rattle.tables.specs.Tables.{userRefusals}
+use Rattle.codes.specs.Codes.{codeOf}
+use Rattle.codes.proofs.Permitted.{user-low}
 use Rattle.refusals.specs.Refusals.{firstOf}
 use Rattle.refusals.proofs.First.{first-none}
 
@@ -24,5 +23,8 @@ passed cell burst count user e =
     let one = first-none 0 (badCell cell) _ e in
     let two = first-none 1 (badType burst) _ (one .1) in
     let three = first-none 2 (badCount burst count) _ (two .1) in
-    let four = first-none 3 (badUser count user) [] (three .1) in
-    record { cell-high = omega (arith, ltb-false 127 cell (one .0)); user-low = ltb-false _ _ (or-false (ltb user 1) (ltb count user) (four .0) .0) }
+    let four = first-none 3 (badUser burst count user) [] (three .1) in
+    record {
+      cell-high = omega (arith, ltb-false 127 cell (one .0));
+      user-low = user-low (codeOf burst) count user (not-false _ (four .0));
+    }

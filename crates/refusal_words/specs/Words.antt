@@ -17,8 +17,8 @@ unfoldable pub conditions : List String
 conditions =
     "cell parameter above 127" ∷
     "burst type not 1, 2 or 3" ∷
-    "midamble count not 8 or 16 (types 1, 3), not 3 or 6 (type 2); in opening a seat 0 is allowed too" ∷
-    "user outside 1..count (in a booking: outside 1..16 for types 1, 3; 1..6 for type 2)" ∷
+    "midamble count not 4, 8 or 16 (types 1, 3), not 3 or 6 (type 2); in opening a seat 0 is allowed too" ∷
+    "user not permitted under the count (in a booking: outside 1..16 for types 1, 3; 1..6 for type 2)" ∷
     "timeslot above 14" ∷
     "spreading factor not 1, 2, 4, 8, 16; code index outside 1..factor; where a direction is given, downlink with a factor other than 1 or 16" ∷
     "type 3 in downlink" ∷
@@ -30,7 +30,7 @@ conditions =
     "seat above 15" ∷
     "seat not open" ∷
     "seat open already" ∷
-    "user above this seat's count" ∷
+    "user not permitted under this seat's count" ∷
     "clash inside this seat's own cell" ∷
     "beacon rule" ∷
     "seat holds 40" ∷

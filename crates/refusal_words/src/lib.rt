@@ -47,11 +47,11 @@ fn words_to_7(number: u32, out: &mut [u8]) -> WordsAnswer
         1 => put(b"cell parameter above 127", out),
         2 => put(b"burst type not 1, 2 or 3", out),
         3 => put(
-            b"midamble count not 8 or 16 (types 1, 3), not 3 or 6 (type 2); in opening a seat 0 is allowed too",
+            b"midamble count not 4, 8 or 16 (types 1, 3), not 3 or 6 (type 2); in opening a seat 0 is allowed too",
             out,
         ),
         4 => put(
-            b"user outside 1..count (in a booking: outside 1..16 for types 1, 3; 1..6 for type 2)",
+            b"user not permitted under the count (in a booking: outside 1..16 for types 1, 3; 1..6 for type 2)",
             out,
         ),
         5 => put(b"timeslot above 14", out),
@@ -99,7 +99,7 @@ fn words_to_21(number: u32, out: &mut [u8]) -> WordsAnswer
 {
     match number {
         15 => put(b"seat open already", out),
-        16 => put(b"user above this seat's count", out),
+        16 => put(b"user not permitted under this seat's count", out),
         17 => put(b"clash inside this seat's own cell", out),
         18 => put(b"beacon rule", out),
         19 => put(b"seat holds 40", out),

@@ -17,14 +17,14 @@ use Rattle.bookings.specs.declared.Booking.{Booking}
 use Rattle.seats.specs.declared.Seat.{Seat}
 use Rattle.bookings.specs.Bookings.{formOf, fine}
 use Rattle.tables.specs.Tables.{settingsRefusals}
-use Rattle.seats.specs.Conditions.{aboveCount, offBeacon}
+use Rattle.seats.specs.Conditions.{notPermitted, offBeacon}
 use Rattle.seats.specs.Seats.{isBlank, held, bookings, goodSettings, stands, standsIn, isBare, seatOk}
 use Rattle.bookings.proofs.Formed.{Formed, formed}
 use Rattle.bookings.proofs.Order.{fine-trans}
 
 pub stands-formed : (case k long short : ℕ) (x : Booking) → stands case k long short x ≡ true → Formed x
 unfolding stands
-stands-formed case k long short x e = formed x (eqb-true _ _ (and-true (eqb (formOf x) 0) (not (aboveCount long short x) && not (offBeacon case k x)) e .0))
+stands-formed case k long short x e = formed x (eqb-true _ _ (and-true (eqb (formOf x) 0) (not (notPermitted long short x) && not (offBeacon case k x)) e .0))
 
 module _ (s : Seat) (l : List Booking) (b : Bool) where
   abbrev as-paired : Type 0

@@ -3,15 +3,16 @@
 use mathlib.Core.Bool.{Bool, cond, not, _&&_}
 use mathlib.Core.List.{List}
 use Prim.Native.Nat.{ℕ}
-use lib.Dec.{eqb, ltb}
+use lib.Dec.{eqb}
 use Rattle.laws.specs.Lists.{every}
+use Rattle.conditions.specs.Conditions.{badUser}
 use Rattle.beacons.specs.Beacons.{isBeacon}
 use Rattle.bookings.specs.declared.Booking.{Booking}
 use Rattle.bookings.specs.Bookings.{clash, breaksBeacon}
 
--- 16: "user above this seat's count", the short count for type 2
-unfoldable pub aboveCount : ℕ → ℕ → Booking → Bool
-aboveCount long short x = ltb (cond (eqb (x .burst) 2) short long) (x .user)
+-- 16: a user that this seat's count does not permit (document 02, C-13), the short count for type 2
+unfoldable pub notPermitted : ℕ → ℕ → Booking → Bool
+notPermitted long short x = badUser (x .burst) (cond (eqb (x .burst) 2) short long) (x .user)
 
 -- 17: "clash inside this seat's own cell", whose bookings are l
 unfoldable pub clashesWith : List Booking → Booking → Bool

@@ -13,7 +13,7 @@ use Rattle.tables.specs.Tables.{settingsRefusals}
 use Rattle.bookings.specs.declared.Booking.{Booking}
 use Rattle.seats.specs.declared.Seat.{Seat}
 use Rattle.bookings.specs.Bookings.{formOf, comes, fine}
-use Rattle.seats.specs.Conditions.{aboveCount, offBeacon}
+use Rattle.seats.specs.Conditions.{notPermitted, offBeacon}
 
 -- a place that is not in use
 abbrev pub blank : Booking
@@ -48,7 +48,7 @@ goodSettings s = eqb (firstOf (settingsRefusals (s .cell) (s .case) (s .k) (s .l
 
 -- a booking that may stand in a seat of these settings, the other bookings left out: it "passes 2 and 4 to 8" and meets 16 and 18
 unfoldable pub stands : ℕ → ℕ → ℕ → ℕ → Booking → Bool
-stands case k long short x = eqb (formOf x) 0 && (not (aboveCount long short x) && not (offBeacon case k x))
+stands case k long short x = eqb (formOf x) 0 && (not (notPermitted long short x) && not (offBeacon case k x))
 
 -- the same, of the seat's own settings
 abbrev pub standsIn : Seat → Booking → Bool

@@ -1,18 +1,28 @@
 // The refusals 16 to 18: what stands against a booking in its own seat.
+ghost use mathlib.Core.Bool.{cond};
 ghost use mathlib.Core.Path.{_≡_};
 ghost use Prim.Native.Nat.{_≤_};
+ghost use lib.Dec.{eqb};
 ghost use lib.ListN.{take};
-ghost use Rattle.seats.specs.Conditions.{aboveCount, clashesWith, offBeacon};
+ghost use Rattle.seats.specs.Conditions.{notPermitted, clashesWith, offBeacon};
 use bookings::Booking;
 
-// Refusal 16.
-pub fn above_count(long: u8, short: u8, x: Booking) -> bool
-    ensures { λ r. ⌜ r ≡ aboveCount long short x ⌝ }
+// Of a seat's two counts the one that a burst type goes by: the short one for type 2, else the long one.
+fn count_for(long: u8, short: u8, burst: u8) -> u8
+    ensures { λ r. ⌜ r ≡ cond (eqb burst 2) short long ⌝ }
 {
-    if x.burst == 2 {
-        return x.user > short;
+    if burst == 2 {
+        return short;
     }
-    x.user > long
+    long
+}
+
+// Refusal 16.
+pub fn not_permitted(long: u8, short: u8, x: Booking) -> bool
+    ensures { λ r. ⌜ r ≡ notPermitted long short x ⌝ }
+{
+    let count = count_for(long, short, x.burst);
+    conditions::bad_user(x.burst as u32, count as u32, x.user as u32)
 }
 
 // Whether x clashes with one of the first n. Refusal 17. No call of document 01: public for the crate book_tables, which hands in `held_by` as n.

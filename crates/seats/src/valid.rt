@@ -33,8 +33,8 @@ fn may_stand(case: u8, k: u8, long: u8, short: u8, x: Booking) -> bool
     if form != 0 {
         return false;
     }
-    let above = crate::rules::above_count(long, short, x);
-    if above {
+    let barred = crate::rules::not_permitted(long, short, x);
+    if barred {
         return false;
     }
     let off = crate::rules::off_beacon(case, k, x);

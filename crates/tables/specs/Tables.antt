@@ -13,7 +13,7 @@ userRefusals cell burst count user =
     (1, badCell cell) ∷
     (2, badType burst) ∷
     (3, badCount burst count) ∷
-    (4, badUser count user) ∷ []
+    (4, badUser burst count user) ∷ []
 
 -- "parts of a timeslot, and what lies at a chip, 2, 6 (factor and direction only), 7, 8, 10"
 unfoldable pub partsRefusals : ℕ → Direction → ℕ → ℕ → ℕ → Refusals

@@ -11,7 +11,7 @@ pub fn user_refusal(cell: u32, burst: u32, count: u32, user: u32) -> u32
     let one = conditions::bad_cell(cell);
     let two = conditions::bad_type(burst);
     let three = conditions::bad_count(burst, count);
-    let four = conditions::bad_user(count, user);
+    let four = conditions::bad_user(burst, count, user);
     let n = refusals::or_refused(0, 1, one);
     let n = refusals::or_refused(n, 2, two);
     let n = refusals::or_refused(n, 3, three);

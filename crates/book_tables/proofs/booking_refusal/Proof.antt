@@ -10,7 +10,7 @@ use Rattle.refusals.specs.Inside.{rowByRow}
 use Rattle.refusals.proofs.First.{append-rows}
 use Rattle.bookings.specs.declared.Booking.{Booking}
 use Rattle.seats.specs.declared.Seat.{Seat}
-use Rattle.seats.specs.Conditions.{aboveCount, clashesWith, offBeacon}
+use Rattle.seats.specs.Conditions.{notPermitted, clashesWith, offBeacon}
 use Rattle.seats.specs.Seats.{held}
 use Rattle.book_tables.specs.Inside.{ownRows, seatRows, bookingRows}
 use borrow.Author.Needs.{needs}
@@ -18,22 +18,22 @@ use Rattle.book_tables.proofs.booking_refusal.Statement.{statement}
 use Rattle.book_tables.proofs.booking_refusal.Tie as tie
 
 -- what the tests gave, m of the seat's table, and r behind it
-seat-first : (ok : Bool) (used seat n m r : ℕ) (s : Seat) (x : Booking) (above clash off out : Bool)
-    → n ≡ held s → above ≡ aboveCount (s .long) (s .short) x → clash ≡ clashesWith (take n (s .row)) x
+seat-first : (ok : Bool) (used seat n m r : ℕ) (s : Seat) (x : Booking) (barred clash off out : Bool)
+    → n ≡ held s → barred ≡ notPermitted (s .long) (s .short) x → clash ≡ clashesWith (take n (s .row)) x
     → off ≡ offBeacon (s .case) (s .k) x → out ≡ (leb 10 n && eqb used 80)
-    → m ≡ firstOf (seatRows ok seat (s .live)) → r ≡ rowByRow m (ownRows above clash off (eqb n 40) out)
+    → m ≡ firstOf (seatRows ok seat (s .live)) → r ≡ rowByRow m (ownRows barred clash off (eqb n 40) out)
     → r ≡ firstOf (bookingRows ok used seat s x)
 unfolding seatRows ownRows bookingRows
-seat-first ok used seat n m r s x above clash off out en ea ec eo eu em er =
+seat-first ok used seat n m r s x barred clash off out en ea ec eo eu em er =
     rw (er, em, ea, ec, eo, eu, en)
     (append-rows (seatRows ok seat (s .live))
-    (ownRows (aboveCount (s .long) (s .short) x) (clashesWith (take (held s) (s .row)) x) (offBeacon (s .case) (s .k) x) (eqb (held s) 40) (leb 10 (held s) && eqb used 80)) tt tt)
+    (ownRows (notPermitted (s .long) (s .short) x) (clashesWith (take (held s) (s .row)) x) (offBeacon (s .case) (s .k) x) (eqb (held s) 40) (leb 10 (held s) && eqb used 80)) tt tt)
 
 held-by-requires : tie.Need-held-by-requires
 held-by-requires c κs = search needs
 
-above-count-requires : tie.Need-above-count-requires
-above-count-requires c κs = search needs
+not-permitted-requires : tie.Need-not-permitted-requires
+not-permitted-requires c κs = search needs
 
 clashes-any-requires : tie.Need-clashes-any-requires
 clashes-any-requires c κs = search needs
@@ -55,7 +55,7 @@ returns c =
     let up = c .before .before in
     let off = up .before in
     seat-first _ _ _ _ _ _ _ _ _ _ _ _ (off .before .before .before .held-by .ensures .0)
-    (off .before .before .above-count .ensures) (off .before .clashes-any .ensures) (off .off-beacon .ensures)
+    (off .before .before .not-permitted .ensures) (off .before .clashes-any .ensures) (off .off-beacon .ensures)
     (up .used-up .ensures) (c .before .seat-refusal .ensures) (c .own-refusal .ensures)
 
 pub booking-refusal-spec : {M : Type 1} → statement M
@@ -63,7 +63,7 @@ booking-refusal-spec =
     tie.close
     (tie.spec
     held-by-requires
-    above-count-requires
+    not-permitted-requires
     clashes-any-requires
     off-beacon-requires
     used-up-requires

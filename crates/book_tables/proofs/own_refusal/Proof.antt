@@ -9,12 +9,12 @@ use borrow.Author.Needs.{needs}
 use Rattle.book_tables.proofs.own_refusal.Statement.{statement}
 use Rattle.book_tables.proofs.own_refusal.Tie as tie
 
-five-rows : (n : ℕ) (above clash off full out : Bool) (r₁ r₂ r₃ r₄ r₅ : ℕ)
-    → r₁ ≡ orRefused n 16 above → r₂ ≡ orRefused r₁ 17 clash → r₃ ≡ orRefused r₂ 18 off
+five-rows : (n : ℕ) (barred clash off full out : Bool) (r₁ r₂ r₃ r₄ r₅ : ℕ)
+    → r₁ ≡ orRefused n 16 barred → r₂ ≡ orRefused r₁ 17 clash → r₃ ≡ orRefused r₂ 18 off
     → r₄ ≡ orRefused r₃ 19 full → r₅ ≡ orRefused r₄ 20 out
-    → r₅ ≡ rowByRow n (ownRows above clash off full out)
+    → r₅ ≡ rowByRow n (ownRows barred clash off full out)
 unfolding rowByRow ownRows
-five-rows n above clash off full out r₁ r₂ r₃ r₄ r₅ e₁ e₂ e₃ e₄ e₅ = rw (e₅, e₄, e₃, e₂, e₁)
+five-rows n barred clash off full out r₁ r₂ r₃ r₄ r₅ e₁ e₂ e₃ e₄ e₅ = rw (e₅, e₄, e₃, e₂, e₁)
 
 or-refused-requires : tie.Need-or-refused-requires
 or-refused-requires c κs = search needs

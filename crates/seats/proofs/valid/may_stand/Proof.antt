@@ -17,15 +17,15 @@ returns : tie.Need-returns
 unfolding stands
 returns c = fails-first _ _ (sym (ne-eqb (formOf (c .before .before .args .x)) 0 (λ z. c .if1 .taken (c .before .form-of .ensures ∙ z))))
 
-above-count-requires : tie.Need-above-count-requires
-above-count-requires c κs = search needs
+not-permitted-requires : tie.Need-not-permitted-requires
+not-permitted-requires c κs = search needs
 
 returns-2 : tie.Need-returns-2
 unfolding stands
 returns-2 c =
     let f = c .before .before .before in
     fails-second _ _ _ (eq-eqb (formOf (f .before .args .x)) 0 (sym (f .form-of .ensures) ∙ c .before .before .if1 .left))
-    (ap not (sym (c .if2 .taken) ∙ c .before .above-count .ensures))
+    (ap not (sym (c .if2 .taken) ∙ c .before .not-permitted .ensures))
 
 off-beacon-requires : tie.Need-off-beacon-requires
 off-beacon-requires c κs = search needs
@@ -36,7 +36,7 @@ returns-3 c =
     let a = c .before .before in
     let f = a .before .before in
     last-decides _ _ _ _ (eq-eqb (formOf (f .before .args .x)) 0 (sym (f .form-of .ensures) ∙ a .before .if1 .left))
-    (ap not (sym (a .above-count .ensures) ∙ c .before .if2 .left)) (ap not (c .off-beacon .ensures))
+    (ap not (sym (a .not-permitted .ensures) ∙ c .before .if2 .left)) (ap not (c .off-beacon .ensures))
 
 pub may-stand-spec : {M : Type 1} → statement M
 may-stand-spec =
@@ -44,7 +44,7 @@ may-stand-spec =
     (tie.spec
     form-of-requires
     returns
-    above-count-requires
+    not-permitted-requires
     returns-2
     off-beacon-requires
     returns-3)

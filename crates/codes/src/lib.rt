@@ -57,8 +57,12 @@ pub fn permits(burst: u32, count: u32, user: u32) -> bool
     let c = code_of(burst);
     let base = c.base;
     let full = 2 * base;
-    let all = (count == full) & (user <= full);
-    let first = (count == base) & (user <= base);
-    let odd = (2 * (count as u64) == base as u64) & ((user <= base) & (user % 2 == 1));
-    (1 <= user) & (all | first | odd)
+    if count == full {
+        return (1 <= user) & (user <= full);
+    }
+    if count == base {
+        return (1 <= user) & (user <= base);
+    }
+    let half = 2 * (count as u64) == base as u64;
+    (1 <= user) & (half & ((user <= base) & (user % 2 == 1)))
 }

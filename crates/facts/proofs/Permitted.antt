@@ -13,6 +13,7 @@ use lib.Ieee.{Float}
 use borrow.Author.Tests.{leb-true, leb-false, ltb-true, ltb-false, le-leb, lt-leb, lt-ltb, le-ltb}
 use borrow.Author.Tests.{eq-eqb, ne-eqb, eqb-true, not-false}
 use Rattle.laws.specs.Lists.{member}
+use Rattle.laws.proofs.Bools.{or-none}
 use Rattle.laws.proofs.Cases.{below-or-not, one-of}
 use Rattle.refusals.specs.Refusals.{Refusals, firstOf, answer, after, _leaving_}
 use Rattle.conditions.specs.Conditions.{badCell, badType, badCount, badUser}
@@ -95,17 +96,6 @@ module _ (k : ℕ) where
   abbrev Range : Code → ℕ → Type 0
   Range c count = permitted c count k ≡ (leb 1 k && leb k count)
 
-  -- a test beside those of the other counts, which fail
-  all-alone : (a b : Bool) → (a && (b || false || false)) ≡ (a && b)
-  all-alone true true = refl
-  all-alone true false = refl
-  all-alone false b = refl
-
-  first-alone : (a b : Bool) → (a && (b || false)) ≡ (a && b)
-  first-alone true true = refl
-  first-alone true false = refl
-  first-alone false b = refl
-
   pub one-to-count : (burst count : ℕ) → badCount burst count ≡ false → (count ≡ 4 → ⊥)
       → Range (codeOf burst) count
   unfolding badCount codeOf permitted
@@ -115,11 +105,11 @@ module _ (k : ℕ) where
           → cond b (not (eqb count 3 || eqb count 6)) (not (eqb count 4 || eqb count 8 || eqb count 16)) ≡ false
           → Range (cond b short long) count
       by true e =
-          one-of (Range short) count 3 (6 ∷ []) (first-alone (leb 1 k) _, (all-alone (leb 1 k) _, tt))
+          one-of (Range short) count 3 (6 ∷ []) (simp or-none, (simp or-none, tt))
           (not-false _ e)
       by false e =
           one-of (λ n. (n ≡ 4 → ⊥) → Range long n) count 4 (8 ∷ 16 ∷ [])
-          (λ no. absurd (no refl), (λ no. first-alone (leb 1 k) _, (λ no. all-alone (leb 1 k) _, tt)))
+          (λ not-4. absurd (not-4 refl), (λ not-4. simp or-none, (λ not-4. simp or-none, tt)))
           (not-false _ e) other
 
 -- ---- "Shifts don't move": a permitted user's chips are the same under every count that permits it

@@ -20,6 +20,10 @@ pub or-false : (a b : Bool) → (a || b) ≡ false → (a ≡ false) × (b ≡ f
 or-false false b e = (refl, e)
 or-false true b e = true-false e
 
+pub or-none : (b : Bool) → (b || false) ≡ b
+or-none true = refl
+or-none false = refl
+
 pub or-same : {a b c d : Bool} → a ≡ c → b ≡ d → (a || b) ≡ (c || d)
 or-same p q = rw (p, q)
 

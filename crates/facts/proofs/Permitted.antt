@@ -1,30 +1,27 @@
 -- Document 02, C-13: "only odd users up to K', so users 1, 3, 5, 7", which counts permit anybody,
--- "Shifts don't move", and why there is such a count: how far the shifts of its users lie apart.
--- `count-given` is cited by Sequences; all else is for the reader. Assumes nothing.
-use mathlib.Core.Path.{_≡_, refl, sym, ap, subst, _∙_}
+-- what the others permit, and "Shifts don't move". Shifts has why there is such a count.
+-- Sequences cites `count-given`; all else is for the reader. Assumes nothing.
+use mathlib.Core.Path.{_≡_, refl, sym, subst}
 use mathlib.Core.Bool.{Bool, true, false, cond, not, _&&_, _||_}
-use mathlib.Core.List.{List, [], _∷_, _++_}
+use mathlib.Core.List.{List, [], _∷_}
 use mathlib.Core.Logic.{_⊎_, inl, inr, ⊎-elim}
-use Prim.Native.Nat.{ℕ, zero, suc, _+_, _-_, _*_, _%_, _<_, _≤_}
-use native.Mathlib.Nat.{mul-le-mul-right, eq-or-lt-of-le, le-of-suc-le-suc}
+use Prim.Native.Nat.{ℕ, zero, suc, _<_}
+use native.Mathlib.Nat.{eq-or-lt-of-le, le-of-suc-le-suc}
 use native.Mathlib.Omega.{arith}
-use lib.Dec.{eqb, ltb, leb, lit≤}
+use lib.Dec.{eqb, leb}
 use lib.Ieee.{Float}
-use borrow.Author.Tests.{leb-true, leb-false, ltb-true, ltb-false, le-leb, lt-leb, lt-ltb, le-ltb}
-use borrow.Author.Tests.{eq-eqb, ne-eqb, eqb-true, not-false}
+use borrow.Author.Tests.{le-leb, lt-leb, ne-eqb, not-false}
 use Rattle.laws.specs.Lists.{member}
 use Rattle.laws.proofs.Bools.{or-none}
 use Rattle.laws.proofs.Cases.{below-or-not, one-of}
-use Rattle.refusals.specs.Refusals.{Refusals, firstOf, answer, after, _leaving_}
-use Rattle.conditions.specs.Conditions.{badCell, badType, badCount, badUser}
+use Rattle.conditions.specs.Conditions.{badCount, badUser}
 use Rattle.tables.specs.Tables.{userRefusals}
 use Rattle.codes.specs.declared.Code.{Code}
-use Rattle.codes.specs.Codes.{short, long, codeOf, shiftOf, permitted}
-use Rattle.codes.proofs.Numbers.{of-codes}
-use Rattle.codes.proofs.Permitted.{All, First, Odd, user-low, setting}
+use Rattle.codes.specs.Codes.{short, long, codeOf, permitted}
+use Rattle.codes.proofs.Permitted.{All, First, Odd, setting}
 use Rattle.midambles.specs.Calls.{chipRefusals, chipAnswer, midambleRefusals, midambleOutcome}
 use Rattle.signal_card.specs.Calls.{pairRefusals, pairAnswer, pairsRefusals, pairsOutcome}
-use Rattle.facts.specs.Permitted.{wideUsers, Apart, leastApart}
+use Rattle.facts.specs.Permitted.{wideUsers}
 
 -- ---- "only odd users up to K', so users 1, 3, 5, 7"
 
@@ -58,9 +55,13 @@ wide-users k =
 
 -- ---- a count is refused 3 exactly where it permits nobody
 
+-- condition 3 by whether the code is the short one
+abbrev bad : Bool → ℕ → Bool
+bad b count = cond b (not (eqb count 3 || eqb count 6)) (not (eqb count 4 || eqb count 8 || eqb count 16))
+
 good-count : (b : Bool) (count k : ℕ)
     → (let c = cond b short long in All c count k ⊎ (First c count k ⊎ Odd c count k))
-    → cond b (not (eqb count 3 || eqb count 6)) (not (eqb count 4 || eqb count 8 || eqb count 16)) ≡ false
+    → bad b count ≡ false
 good-count true count k (inl all) = rw (all .0) refl
 good-count true count k (inr (inl first)) = rw (first .0) refl
 good-count true count k (inr (inr odd)) = absurd (omega (arith, odd .0))
@@ -83,9 +84,7 @@ pub count-permits : (burst count : ℕ) → badCount burst count ≡ false
 unfolding badCount codeOf permitted
 count-permits burst count = by (eqb burst 2)
   where
-    by : (b : Bool)
-        → cond b (not (eqb count 3 || eqb count 6)) (not (eqb count 4 || eqb count 8 || eqb count 16)) ≡ false
-        → permitted (cond b short long) count 1 ≡ true
+    by : (b : Bool) → bad b count ≡ false → permitted (cond b short long) count 1 ≡ true
     by true e = one-of (λ n. permitted short n 1 ≡ true) count 3 (6 ∷ []) (refl, (refl, tt)) (not-false _ e)
     by false e =
         one-of (λ n. permitted long n 1 ≡ true) count 4 (8 ∷ 16 ∷ []) (refl, (refl, (refl, tt))) (not-false _ e)
@@ -101,9 +100,7 @@ module _ (k : ℕ) where
   unfolding badCount codeOf permitted
   one-to-count burst count e other = by (eqb burst 2) e
     where
-      by : (b : Bool)
-          → cond b (not (eqb count 3 || eqb count 6)) (not (eqb count 4 || eqb count 8 || eqb count 16)) ≡ false
-          → Range (cond b short long) count
+      by : (b : Bool) → bad b count ≡ false → Range (cond b short long) count
       by true e =
           one-of (Range short) count 3 (6 ∷ []) (simp or-none, (simp or-none, tt))
           (not-false _ e)

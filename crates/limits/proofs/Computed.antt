@@ -29,7 +29,8 @@ use Rattle.limits.specs.Limits.{atThreeSeats, atWholeClass}
 pub computed :
     (seen (bookAfter threeSeats) ≡ atThreeSeats) × (seen (bookAfter wholeClass) ≡ atWholeClass)
 unfolding member every pairs total firstOf after
-    codeOf permitted badType badCell badCount badUser isDown badFactor badDownFactor badDownType badControl badBeacon
+    codeOf permitted badType badCell badCount badUser isDown badFactor
+    badDownFactor badDownType badControl badBeacon
     badBookedUser badTimeslot badCode formRefusals settingsRefusals beaconsOf isBeacon
     formOf leavesOf firstLeaf overlaps sameDirection mixed xor clash comes fine beaconRules breaksBeacon
     notPermitted clashesWith offBeacon isBlank closed goodSettings stands isBare seatOk

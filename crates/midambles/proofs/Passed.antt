@@ -1,7 +1,7 @@
 -- What a call knows whose user was not refused. Cited by proofs/Answers.antt, the calls' proofs and the crate signal_card.
 -- Assumes nothing.
 use mathlib.Core.Path.{_≡_}
-use mathlib.Core.List.{[], _∷_}
+use mathlib.Core.List.{[]}
 use Prim.Native.Nat.{ℕ, _<_, _≤_}
 use native.Mathlib.Omega.{arith}
 use borrow.Author.Tests.{ltb-false, not-false}

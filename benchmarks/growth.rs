@@ -119,7 +119,8 @@ mod plain {
     pub fn mixed(seed: u32, calls: u32) -> u32 {
         let mut b = empty_book();
         for i in 0..16 {
-            b = open_seat(b, i, i, 1 + i % 2, i % 8, i % 5 * 4, i % 4 * 3).book;
+            let t = i / 4 % 4;
+            b = open_seat(b, i, i, 1 + i % 2, i % 8, t * 4 + t / 3 * 4, i % 4 * 3).book;
         }
         let mut sum = seed % 65536;
         let mut x = seed % 65536;

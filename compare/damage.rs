@@ -62,7 +62,7 @@ pub fn broken(dice: &mut Dice, whole: &MqBook) -> MqBook {
             b.0[booking + BURST_TYPE] = if b.0[booking + BURST_TYPE] == 2 { 1 } else { 2 };
             b.0[booking + USER] = 3;
         }
-        // a count that is none: 0 is left, or a long one is short, or 4 is a short one
+        // a count that is none: 0 is left, or the long one is a short code's, or the short one is 4
         10 if live => b.0[start + LONG_COUNT] = dice.pick(&[0, 3, 5, 6, 7, 12, 17, 255]),
         11 if live => b.0[start + SHORT_COUNT] = dice.pick(&[0, 1, 2, 4, 5, 7, 8, 16]),
         // a user that its seat's count does not permit

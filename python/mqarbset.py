@@ -390,10 +390,10 @@ class Book:
         """Books a code in a timeslot for a seat.
 
         seat 0 to 15, open; timeslot 0 to 14; direction UP or DOWN; burst type 1 to 3 (DOWN: 1, 2); factor
-        1, 2, 4, 8, 16 (DOWN: 1, 16); index 1 to factor; user 1 to the seat's count, under 4 one of 1, 3, 5,
-        7; tfci and tpc as for parts. In one timeslot two bookings of a seat clash (17) if their directions
-        differ, or if exactly one of them is type 2, or if their codes share a leaf. Refused with 2, 4 to 8,
-        12 to 14, 16 to 20.
+        1, 2, 4, 8, 16 (DOWN: 1, 16); index 1 to factor; user 1 to the seat's count for the burst type, under
+        4 one of 1, 3, 5, 7; tfci and tpc as for parts. In one timeslot two bookings of a seat clash (17) if
+        their directions differ, or if exactly one of them is type 2, or if their codes share a leaf. Refused
+        with 2, 4 to 8, 12 to 14, 16 to 20.
         """
         self._changed('mq_book_value', seat=seat, timeslot=timeslot, direction=direction, burst=burst,
                       factor=factor, index=index, user=user, tfci=tfci, tpc=tpc)

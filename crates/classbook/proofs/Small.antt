@@ -1,6 +1,6 @@
 -- Numbers that were not refused are small, so that a byte holds each. Cited by the proofs of open_seat and book_code.
 -- Assumes nothing.
-use mathlib.Core.Path.{_≡_}
+use mathlib.Core.Path.{_≡_, refl}
 use mathlib.Core.Logic.{⊎-elim}
 use mathlib.Core.Bool.{Bool, true, false, cond, not, _&&_, _||_}
 use mathlib.Core.List.{[], _∷_}
@@ -9,7 +9,11 @@ use native.Mathlib.Omega.{arith}
 use lib.Dec.{eqb, ltb, lit≤}
 use borrow.Author.Tests.{ltb-false, not-false}
 use Rattle.laws.proofs.Bools.{or-false}
+use Rattle.codes.specs.Codes.{codeOf}
+use Rattle.codes.proofs.Numbers.{small}
+use Rattle.codes.proofs.Permitted.{setting}
 use Rattle.conditions.specs.Conditions.{badType, isDown, badFactor, badDownFactor, badDownType, badControl, badCell, badCount, badBeacon, badBookedUser, badTimeslot, badCode}
+use Rattle.conditions.proofs.Counts.{count-permits}
 use Rattle.tables.specs.Tables.{formRefusals, settingsRefusals}
 use Rattle.refusals.specs.Refusals.{firstOf}
 use Rattle.refusals.proofs.First.{first-none}
@@ -17,14 +21,13 @@ use Rattle.laws.proofs.Cases.{either, one-of}
 use Rattle.classbook.specs.declared.Request.{Request}
 use Rattle.classbook.specs.Calls.{requestRefusals}
 
--- a count that is not refused is at most 16
-count-by : (b : Bool) (count : ℕ) → cond b (not (eqb count 3 || eqb count 6)) (not (eqb count 4 || eqb count 8 || eqb count 16)) ≡ false → count ≤ 16
-count-by true count e = one-of (λ q. q ≤ 16) count 3 (6 ∷ []) (lit≤ tt, (lit≤ tt, tt)) (not-false _ e)
-count-by false count e = one-of (λ q. q ≤ 16) count 4 (8 ∷ 16 ∷ []) (lit≤ tt, (lit≤ tt, (lit≤ tt, tt))) (not-false _ e)
-
+-- a count that is not refused is at most 16: it permits somebody, and is then a setting of its code
 count-high : (burst count : ℕ) → badCount burst count ≡ false → count ≤ 16
-unfolding badCount
-count-high burst count e = count-by (eqb burst 2) count e
+count-high burst count e =
+    let c = codeOf burst in
+    let high = small c burst refl .base-high in
+    ⊎-elim (λ all. omega (arith, all .0, high)) (⊎-elim (λ first. omega (arith, first .0, high)) (λ odd. omega (arith, odd .0, high)))
+    (setting c count 1 (count-permits burst count e))
 
 case-high : (case k : ℕ) → badBeacon case k ≡ false → (case ≤ 2) × (k ≤ 14)
 unfolding badBeacon

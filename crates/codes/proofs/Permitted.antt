@@ -1,9 +1,10 @@
--- A permitted user and its count: the three settings of Annex A, taken apart. Cited by the crates midambles and facts.
+-- A permitted user and its count: the three settings of Annex A, taken apart. Cited by the crates conditions, midambles and facts.
 -- Assumes nothing.
 use mathlib.Core.Path.{_≡_, refl}
 use mathlib.Core.Bool.{true, _&&_}
 use mathlib.Core.Logic.{_⊎_, inl, inr, ⊎-elim}
 use Prim.Native.Nat.{ℕ, _*_, _%_, _≤_}
+use native.Mathlib.Omega.{arith}
 use lib.Dec.{eqb, leb}
 use borrow.Author.Tests.{leb-true, eqb-true, le-leb, eq-eqb}
 use Rattle.laws.proofs.Bools.{and-true}
@@ -46,3 +47,20 @@ module _ (c : Code) (count k : ℕ) (e : permitted c count k ≡ true) where
 pub permitted-all : (c : Code) (k : ℕ) → 1 ≤ k → k ≤ 2 * c .base → permitted c (2 * c .base) k ≡ true
 unfolding permitted
 permitted-all c k low high = rw (le-leb 1 k low, eq-eqb (2 * c .base) (2 * c .base) refl, le-leb k (2 * c .base) high) refl
+
+-- two users of one count go by the same setting
+pub one-setting : (c : Code) (count k l : ℕ) → 1 ≤ c .base → permitted c count k ≡ true → permitted c count l ≡ true
+    → (All c count k × All c count l) ⊎ ((First c count k × First c count l) ⊎ (Odd c count k × Odd c count l))
+one-setting c count k l some here there = by (setting c count k here) (setting c count l there)
+  where
+    by : All c count k ⊎ (First c count k ⊎ Odd c count k) → All c count l ⊎ (First c count l ⊎ Odd c count l)
+        → (All c count k × All c count l) ⊎ ((First c count k × First c count l) ⊎ (Odd c count k × Odd c count l))
+    by (inl a) (inl b) = inl (a, b)
+    by (inl a) (inr (inl b)) = absurd (omega (arith, a .0, b .0))
+    by (inl a) (inr (inr b)) = absurd (omega (arith, a .0, b .0))
+    by (inr (inl a)) (inl b) = absurd (omega (arith, a .0, b .0))
+    by (inr (inl a)) (inr (inl b)) = inr (inl (a, b))
+    by (inr (inl a)) (inr (inr b)) = absurd (omega (arith, a .0, b .0))
+    by (inr (inr a)) (inl b) = absurd (omega (arith, a .0, b .0))
+    by (inr (inr a)) (inr (inl b)) = absurd (omega (arith, a .0, b .0))
+    by (inr (inr a)) (inr (inr b)) = inr (inr (a, b))

@@ -25,10 +25,13 @@ shiftOf c k =
     ((c .base - k) * c .step)
     (cond (ltb k (2 * c .base)) ((2 * c .base - k - 1) * c .step + c .half) ((c .base - 1) * c .step + c .half))
 
--- Annex A: a count permits "all k=1,2,...,K; K=2K' or k=1,2,...,K', only, or odd k=1,3,5,...,≤K', only". It is how many it permits: 16, 8, 4 long, 6, 3 short.
+-- the users k that a count permits, Annex A: the count says how many they are
 unfoldable pub permitted : Code → ℕ → ℕ → Bool
 permitted c count k =
     leb 1 k
+    -- "for all k=1,2,...,K; K=2K'": the counts 16 and 6
     && ((eqb count (2 * c .base) && leb k (2 * c .base))
+    -- "for k=1,2,...,K', only": 8 and 3
     || (eqb count (c .base) && leb k (c .base))
+    -- "for odd k=1,3,5,..., ≤ K', only"; document 02, C-13: "so users 1, 3, 5, 7. Add the long count 4." 3 has no half: there is no such short count
     || (eqb (2 * count) (c .base) && (leb k (c .base) && eqb (k % 2) 1)))

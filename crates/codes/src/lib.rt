@@ -63,6 +63,6 @@ pub fn permits(burst: u32, count: u32, user: u32) -> bool
     if count == base {
         return (1 <= user) & (user <= base);
     }
-    let half = 2 * (count as u64) == base as u64;
-    (1 <= user) & (half & ((user <= base) & (user % 2 == 1)))
+    let odd_only = 2 * (count as u64) == base as u64;
+    (1 <= user) & (odd_only & ((user <= base) & (user % 2 == 1)))
 }

@@ -26,7 +26,7 @@ badType burst = ltb burst 1 || ltb 3 burst
 unfoldable pub badCount : ℕ → ℕ → Bool
 badCount burst count = cond (eqb burst 2) (not (eqb count 3 || eqb count 6)) (not (eqb count 4 || eqb count 8 || eqb count 16))
 
--- 4, where the call names the count: a user that it does not permit (document 02, C-13: "membership")
+-- 4, where the call names the count: "user outside 1..count"; document 02, C-13: "The user check, so far a range, becomes membership". 16 asks it of the seat's count
 unfoldable pub badUser : ℕ → ℕ → ℕ → Bool
 badUser burst count user = not (permitted (codeOf burst) count user)
 

@@ -43,7 +43,7 @@ pub fn bad_count(burst: u32, count: u32) -> bool
     !((count == 4) | (count == 8) | (count == 16))
 }
 
-// 4: the count does not permit the user.
+// 4, where the call names the count, and 16, by the seat's: the count does not permit the user.
 pub fn bad_user(burst: u32, count: u32, user: u32) -> bool
     ensures { λ r. ⌜ r ≡ badUser burst count user ⌝ }
 {

@@ -10,4 +10,5 @@ pub mod Room
 pub mod Lists
 pub mod Codes
 pub mod Clashes
+pub mod OldCounts
 pub mod OldSentence

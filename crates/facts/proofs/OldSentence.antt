@@ -1,25 +1,28 @@
 -- Before document 02 the class book kept the sentence of source 000, "burst types are not mixed in
 -- one timeslot": types clashed where they differed. What clashes by document 02 clashed by that
--- sentence, so a book that met its conditions then still meets them. No other definition or proof
--- has the old sentence. No function's proof cites it: it is for the reader. Assumes nothing.
+-- sentence, and what passed the old rules on counts and users passes (OldCounts), so a book that met
+-- its conditions by document 01 alone still meets them. No other definition or proof has the old
+-- sentence. No function's proof cites it: it is for the reader. Assumes nothing.
 use mathlib.Core.Path.{_≡_, refl, sym, ap, _∙_}
 use mathlib.Core.Logic.{⊎-elim}
 use mathlib.Core.Bool.{Bool, true, false, not, xor, _&&_, _||_, or-true}
 use mathlib.Core.List.{List, [], _∷_, map}
-use Prim.Native.Nat.{ℕ}
+use Prim.Native.Nat.{ℕ, min}
 use lib.Dec.{eqb, leb}
+use lib.ListN.{take}
 use borrow.Author.Tests.{eqb-true, not-true}
 use Rattle.laws.specs.Lists.{every, pairs}
 use Rattle.laws.proofs.Bools.{true-false, and-true, both}
-use Rattle.laws.proofs.Cases.{by-cases}
+use Rattle.laws.proofs.Cases.{by-cases, either}
 use Rattle.bookings.specs.declared.Booking.{Booking}
 use Rattle.bookings.specs.Bookings.{overlaps, sameDirection, mixed, clash, comes, fine}
 use Rattle.bookings.proofs.Types.{mixed-self}
 use Rattle.seats.specs.declared.Seat.{Seat}
 use Rattle.seats.specs.Seats.{bookings, bareOrGood, atMostForty, eachMayStand, noTwoClash}
-use Rattle.seats.specs.Seats.{restBlank, seatOk}
+use Rattle.seats.specs.Seats.{isBare, restBlank, standsIn, seatOk}
 use Rattle.classbook.specs.declared.Book.{Book}
 use Rattle.classbook.specs.Book.{common, bookOk}
+use Rattle.facts.proofs.OldCounts.{oldGoodSettings, oldStandsIn, settings-then, stands-then}
 
 -- ---- the old sentence, and what was read from it
 unfoldable pub oldMixed : ℕ → ℕ → Bool
@@ -36,8 +39,9 @@ oldFine x y = comes x y && not (oldClash x y)
 
 unfoldable pub oldSeatOk : Seat → Bool
 oldSeatOk s =
-    bareOrGood s
-    && (atMostForty s && (eachMayStand s && (pairs oldFine (bookings s) && restBlank s)))
+    (isBare s || (s .live && oldGoodSettings s))
+    && (atMostForty s
+    && (every (oldStandsIn s) (bookings s) && (pairs oldFine (bookings s) && restBlank s)))
 
 unfoldable pub oldBookOk : Book → Bool
 oldBookOk b = every oldSeatOk (b .seats) && leb (common b) 80
@@ -96,17 +100,47 @@ module _ {A : Type 0} where
       (pairs-more r s h l (c .1))
 
 -- ---- a seat, and a book
+
+-- a closed seat holds nothing
+bare-holds-none : (s : Seat) → isBare s ≡ true → bookings s ≡ []
+unfolding isBare
+bare-holds-none s h =
+    let a = and-true (not (s .live)) _ h in
+    let b = and-true (eqb (s .cell) 0) _ (a .1) in
+    let c = and-true (eqb (s .case) 0) _ (b .1) in
+    let d = and-true (eqb (s .k) 0) _ (c .1) in
+    let e = and-true (eqb (s .long) 0) _ (d .1) in
+    let f = and-true (eqb (s .short) 0) (eqb (s .count) 0) (e .1) in
+    ap (λ (n : ℕ). take (min n 40) (s .row)) (eqb-true (s .count) 0 (f .1))
+
+-- its settings and its bookings pass
+settings-and-bookings : (s : Seat) → (isBare s || (s .live && oldGoodSettings s)) ≡ true
+    → every (oldStandsIn s) (bookings s) ≡ true → (bareOrGood s ≡ true) × (eachMayStand s ≡ true)
+unfolding every
+settings-and-bookings s h e = ⊎-elim bare live (either (isBare s) _ h)
+  where
+    bare : isBare s ≡ true → (bareOrGood s ≡ true) × (eachMayStand s ≡ true)
+    bare t = (rw t refl, rw (bare-holds-none s t) refl)
+
+    live : (s .live && oldGoodSettings s) ≡ true → (bareOrGood s ≡ true) × (eachMayStand s ≡ true)
+    live t =
+        let g = and-true (s .live) _ t in (
+          ap (λ (b : Bool). isBare s || b) (both _ _ (g .0) (settings-then s (g .1))) ∙ or-true (isBare s),
+          every-more (oldStandsIn s) (standsIn s) (stands-then s (g .1)) (bookings s) e,
+        )
+
 seat-then : (s : Seat) → oldSeatOk s ≡ true → seatOk s ≡ true
 unfolding oldSeatOk seatOk
 seat-then s h =
-    let a = and-true (bareOrGood s) _ h in
+    let a = and-true (isBare s || (s .live && oldGoodSettings s)) _ h in
     let b = and-true (atMostForty s) _ (a .1) in
-    let c = and-true (eachMayStand s) _ (b .1) in
+    let c = and-true (every (oldStandsIn s) (bookings s)) _ (b .1) in
     let d = and-true (pairs oldFine (bookings s)) (restBlank s) (c .1) in
+    let g = settings-and-bookings s (a .0) (c .0) in
     let n : noTwoClash s ≡ true = pairs-more oldFine fine fine-then (bookings s) (d .0) in
-    both _ _ (a .0) (both _ _ (b .0) (both _ _ (c .0) (both _ _ n (d .1))))
+    both _ _ (g .0) (both _ _ (b .0) (both _ _ (g .1) (both _ _ n (d .1))))
 
--- a book that met its conditions under the old sentence still meets them
+-- a book that met its conditions by document 01 alone still meets them
 pub old-book-kept : (b : Book) → oldBookOk b ≡ true → bookOk b ≡ true
 unfolding oldBookOk bookOk
 old-book-kept b h =

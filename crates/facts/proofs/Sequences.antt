@@ -15,6 +15,7 @@ use Rattle.refusals.proofs.First.{first-none, first-passes, append-none, append
 use Rattle.refusals.proofs.First.{answer-answered}
 use Rattle.conditions.specs.Conditions.{badCell, badType, badCount, badUser}
 use Rattle.conditions.specs.Conditions.{badMidambleChip, tooShort}
+use Rattle.conditions.proofs.Counts.{count-given}
 use Rattle.tables.specs.Tables.{userRefusals}
 use Rattle.codes.specs.Codes.{short, long, codeOf, shiftOf, permitted}
 use Rattle.codes.proofs.Numbers.{lastOf, reads-within, last-elements}
@@ -23,7 +24,6 @@ use Rattle.midambles.specs.TrainingSequences.{chipOf}
 use Rattle.midambles.specs.Calls.{chipRefusals, chipAnswer, midambleRefusals, midambleOutcome}
 use Rattle.refusals.proofs.First.{answer-given}
 use Rattle.facts.specs.Orders.{answerOf}
-use Rattle.facts.proofs.Permitted.{count-given}
 use Rattle.facts.specs.Sequences.{elementRead, elementOf, lastElement}
 
 -- ---- which questions are answered

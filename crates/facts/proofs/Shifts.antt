@@ -13,7 +13,7 @@ use Rattle.laws.proofs.Cases.{below-or-not}
 use Rattle.codes.specs.declared.Code.{Code}
 use Rattle.codes.specs.Codes.{short, long, codeOf, shiftOf, permitted}
 use Rattle.codes.proofs.Numbers.{of-codes}
-use Rattle.codes.proofs.Permitted.{All, First, Odd, user-low, setting}
+use Rattle.codes.proofs.Permitted.{All, First, Odd, user-low, one-setting}
 use Rattle.facts.specs.Permitted.{Apart, leastApart}
 
 -- what both codes share: K' steps are a period, and two half steps are no more than a step
@@ -206,22 +206,12 @@ module _ (c : Code) (sp : Spaced c) where
   -- the two users in their order
   in-order : (count k l : ℕ) → permitted c count k ≡ true → permitted c count l ≡ true → k < l
       → Goal count k l
-  in-order count k l here there up = by (setting c count k here) (setting c count l there)
-    where
-      low : 1 ≤ k
-      low = user-low c count k here
-
-      by : All c count k ⊎ (First c count k ⊎ Odd c count k)
-          → All c count l ⊎ (First c count l ⊎ Odd c count l) → Goal count k l
-      by (inl a) (inl b) = under-all count k l a b low up
-      by (inl a) (inr (inl b)) = absurd (omega (arith, a .0, b .0, sp .some))
-      by (inl a) (inr (inr b)) = absurd (omega (arith, a .0, b .0, sp .some))
-      by (inr (inl a)) (inl b) = absurd (omega (arith, a .0, b .0, sp .some))
-      by (inr (inl a)) (inr (inl b)) = under-first count k l a b low up
-      by (inr (inl a)) (inr (inr b)) = absurd (omega (arith, a .0, b .0, sp .some))
-      by (inr (inr a)) (inl b) = absurd (omega (arith, a .0, b .0, sp .some))
-      by (inr (inr a)) (inr (inl b)) = absurd (omega (arith, a .0, b .0, sp .some))
-      by (inr (inr a)) (inr (inr b)) = under-odd count k l a b low up
+  in-order count k l here there up =
+      let low = user-low c count k here in
+      ⊎-elim (λ all. under-all count k l (all .0) (all .1) low up)
+      (⊎-elim (λ first. under-first count k l (first .0) (first .1) low up)
+      (λ odd. under-odd count k l (odd .0) (odd .1) low up))
+      (one-setting c count k l (sp .some) here there)
 
 -- the law: of two users that a count permits
 pub shifts-apart : (burst count k l : ℕ) → permitted (codeOf burst) count k ≡ true

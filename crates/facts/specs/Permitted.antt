@@ -1,5 +1,5 @@
--- Document 02, C-13: the users of a wide harbour, and how far apart shifts lie. Cited by proofs/Permitted.antt.
--- Assumes nothing.
+-- Document 02, C-13: the users of a wide harbour, and how far apart shifts lie. Cited by
+-- proofs/Permitted.antt and proofs/Shifts.antt. Assumes nothing.
 use mathlib.Core.Bool.{cond}
 use mathlib.Core.List.{List, [], _∷_}
 use mathlib.Core.Logic.{_⊎_}
@@ -16,8 +16,8 @@ wideUsers = 1 ∷ 3 ∷ 5 ∷ 7 ∷ []
 unfoldable pub Apart : ℕ → ℕ → ℕ → ℕ → Type 0
 Apart P d s t = ((s + d ≤ t) ⊎ (t + d ≤ s)) × ((s + d ≤ t + P) × (t + d ≤ s + P))
 
--- how far the shifts of a count's users lie apart: half a step under 2K', a step under K', two
--- steps under the count of the odd users
+-- how far the shifts of a count's users lie apart at least: half a step under 2K', a step under K',
+-- two steps under the count of the odd users (and under a number that is no count: it has no users)
 unfoldable pub leastApart : Code → ℕ → ℕ
 leastApart c count =
     cond (eqb count (2 * c .base)) (c .half) (cond (eqb count (c .base)) (c .step) (2 * c .step))

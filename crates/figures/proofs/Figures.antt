@@ -21,7 +21,7 @@ use Rattle.paging.specs.Calls.{indicatorRefusals, indicatorAnswer}
 use Rattle.beacons.specs.Beacons.{beaconsOf, isBeacon}
 use Rattle.beacons.specs.Calls.{beaconRefusals, beaconAnswer}
 use Rattle.bookings.specs.Bookings.{formOf, leavesOf, firstLeaf, overlaps, sameDirection, mixed, clash, comes, fine, beaconRules, breaksBeacon}
-use Rattle.seats.specs.Conditions.{notPermitted, clashesWith, offBeacon}
+use Rattle.seats.specs.Conditions.{countFor, notPermitted, clashesWith, offBeacon}
 use Rattle.seats.specs.Seats.{isBlank, closed, goodSettings, stands, isBare, seatOk, rank, insert, withPlan}
 use Rattle.classbook.specs.Book.{emptyBook, seatOf, withSeat, common, bookOk}
 use Rattle.classbook.specs.Conditions.{badBook, badSeat, notOpen, isOpen, seatFull, roomUsedUp}
@@ -38,7 +38,7 @@ unfolding figures opening firstBooking secondBooking run member every pairs tota
     carryingOf halfOf placeOf badPich pichRefusals badFrames badNumber indicatorRefusals indicatorAnswer
     beaconsOf badBeacon isBeacon beaconRefusals beaconAnswer
     badBookedUser badTimeslot badCode formRefusals formOf leavesOf firstLeaf overlaps sameDirection mixed xor clash comes fine beaconRules breaksBeacon
-    isBlank closed settingsRefusals goodSettings notPermitted offBeacon stands clashesWith isBare seatOk rank insert withPlan
+    isBlank closed settingsRefusals goodSettings countFor notPermitted offBeacon stands clashesWith isBare seatOk rank insert withPlan
     emptyBook seatOf withSeat common bookOk
     badBook badSeat notOpen isOpen seatFull roomUsedUp longCount shortCount openRefusals openSeat openAnswer
     asBooking requestRefusals bookingRefusals bookRefusals booked bookAnswer seatRefusals

@@ -32,7 +32,13 @@ fn request_of(j: u32, user: u32) -> Request {
     }
 }
 
-// Sixteen open seats, with so many kinds of settings.
+// 0, 4, 8 or 16.
+fn long_count(j: u32) -> u32 {
+    let t = j / 4 % 4;
+    t * 4 + t / 3 * 4
+}
+
+// Sixteen seats, opened with so many kinds of settings; of the short counts 0, 3, 6 and 9 the last is refused.
 fn opened_book(kinds: u32) -> Book
     requires { ⌜ 1 ≤ kinds ⌝ }
 {
@@ -40,7 +46,8 @@ fn opened_book(kinds: u32) -> Book
     let mut i: u32 = 0;
     while i < 16 {
         let j = i % kinds;
-        let a = classbook::open_seat(b, i, i, 1 + j % 2, j % 8, j % 5 * 4, j % 4 * 3);
+        let long = long_count(j);
+        let a = classbook::open_seat(b, i, i, 1 + j % 2, j % 8, long, j % 4 * 3);
         b = a.book;
         i += 1;
     }

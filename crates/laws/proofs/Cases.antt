@@ -1,10 +1,12 @@
 -- What there is to distinguish: a test holds or not, one of two joined tests holds, a number is below another or not, equal to it or not,
--- or one of a few. Cited by the proofs of all chapters. Assumes nothing.
+-- one of a few, or one of those below another. Cited by the proofs of all chapters. Assumes nothing.
 use mathlib.Core.Path.{_≡_, refl, sym, subst}
 use mathlib.Core.List.{List, [], _∷_}
 use mathlib.Core.Bool.{Bool, true, false, _||_}
 use mathlib.Core.Logic.{_⊎_, inl, inr, ⊎-elim}
-use Prim.Native.Nat.{ℕ, _<_, _≤_}
+use Prim.Native.Nat.{ℕ, zero, suc, _<_, _≤_}
+use native.Mathlib.Nat.{eq-or-lt-of-le, le-of-suc-le-suc}
+use native.Mathlib.Omega.{arith}
 use lib.Dec.{eqb, ltb}
 use borrow.Author.Tests.{ltb-true, ltb-false, eqb-true, eqb-false}
 
@@ -39,3 +41,12 @@ among-held P n held (a ∷ l) h e t =
 -- what holds of each of a few numbers holds of whatever is one of them
 pub one-of : (P : ℕ → Type 0) (n a : ℕ) (l : List ℕ) → Each P (a ∷ l) → among n (eqb n a) l ≡ true → P n
 one-of P n a l e = among-held P n (eqb n a) l (λ q. subst P (sym (eqb-true n a q)) (e .0)) (e .1)
+
+-- what holds of each number below n
+abbrev pub Below : (ℕ → Type 0) → ℕ → Type 0
+Below P zero = Unit
+Below P (suc n) = Below P n × P n
+
+pub below : (P : ℕ → Type 0) (n : ℕ) → Below P n → (k : ℕ) → k < n → P k
+below P zero b k h = absurd (omega arith)
+below P (suc n) b k h = ⊎-elim (λ e. subst P (sym e) (b .1)) (λ l. below P n (b .0) k l) (eq-or-lt-of-le (le-of-suc-le-suc h))

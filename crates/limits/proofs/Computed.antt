@@ -12,7 +12,7 @@ use Rattle.tables.specs.Tables.{formRefusals, settingsRefusals}
 use Rattle.beacons.specs.Beacons.{beaconsOf, isBeacon}
 use Rattle.bookings.specs.Bookings.{formOf, leavesOf, firstLeaf, overlaps, sameDirection, mixed}
 use Rattle.bookings.specs.Bookings.{clash, comes, fine, beaconRules, breaksBeacon}
-use Rattle.seats.specs.Conditions.{notPermitted, clashesWith, offBeacon}
+use Rattle.seats.specs.Conditions.{countFor, notPermitted, clashesWith, offBeacon}
 use Rattle.seats.specs.Seats.{isBlank, closed, goodSettings, stands, isBare, seatOk}
 use Rattle.seats.specs.Seats.{rank, insert, withPlan}
 use Rattle.classbook.specs.Book.{emptyBook, seatOf, withSeat, planOf, common, bookOk}
@@ -33,7 +33,7 @@ unfolding member every pairs total firstOf after
     badDownFactor badDownType badControl badBeacon
     badBookedUser badTimeslot badCode formRefusals settingsRefusals beaconsOf isBeacon
     formOf leavesOf firstLeaf overlaps sameDirection mixed xor clash comes fine beaconRules breaksBeacon
-    notPermitted clashesWith offBeacon isBlank closed goodSettings stands isBare seatOk
+    countFor notPermitted clashesWith offBeacon isBlank closed goodSettings stands isBare seatOk
     rank insert withPlan emptyBook seatOf withSeat planOf common bookOk
     badBook badSeat notOpen isOpen seatFull roomUsedUp
     longCount shortCount openRefusals openSeat openAnswer

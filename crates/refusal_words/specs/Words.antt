@@ -1,5 +1,5 @@
--- Document 01, "Refusal numbers": the words of each number, the column Condition of its table; behind them those of document 02's numbers, which gives none
--- (docs/LESSONS.md, "Refusals"). Cited by the promise of `words`.
+-- Document 01, "Refusal numbers": the words of each number, the column Condition of its table, but for 3, 4 and 16, which document 02 makes untrue, and 22, which
+-- it adds: it gives none for these, and docs/LESSONS.md, "Refusals", has theirs. Cited by the promise of `words`.
 -- Assumes nothing.
 use mathlib.Core.Bool.{cond}
 use mathlib.Core.List.{List, [], _∷_, _++_}

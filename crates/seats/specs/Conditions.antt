@@ -10,9 +10,13 @@ use Rattle.beacons.specs.Beacons.{isBeacon}
 use Rattle.bookings.specs.declared.Booking.{Booking}
 use Rattle.bookings.specs.Bookings.{clash, breaksBeacon}
 
--- 16: a user that this seat's count does not permit (document 02, C-13), the short count for type 2
+-- of a seat's two counts the one that a burst type goes by
+unfoldable pub countFor : ℕ → ℕ → ℕ → ℕ
+countFor long short burst = cond (eqb burst 2) short long
+
+-- 16: "user above this seat's count"; document 02, C-13: "also given to an even user, or one above 7, under count 4"
 unfoldable pub notPermitted : ℕ → ℕ → Booking → Bool
-notPermitted long short x = badUser (x .burst) (cond (eqb (x .burst) 2) short long) (x .user)
+notPermitted long short x = badUser (x .burst) (countFor long short (x .burst)) (x .user)
 
 -- 17: "clash inside this seat's own cell", whose bookings are l
 unfoldable pub clashesWith : List Booking → Booking → Bool

@@ -1,15 +1,13 @@
 // The refusals 16 to 18: what stands against a booking in its own seat.
-ghost use mathlib.Core.Bool.{cond};
 ghost use mathlib.Core.Path.{_≡_};
 ghost use Prim.Native.Nat.{_≤_};
-ghost use lib.Dec.{eqb};
 ghost use lib.ListN.{take};
-ghost use Rattle.seats.specs.Conditions.{notPermitted, clashesWith, offBeacon};
+ghost use Rattle.seats.specs.Conditions.{countFor, notPermitted, clashesWith, offBeacon};
 use bookings::Booking;
 
-// Of a seat's two counts the one that a burst type goes by: the short one for type 2, else the long one.
+// Of a seat's two counts the one that a burst type goes by: the short one for type 2.
 fn count_for(long: u8, short: u8, burst: u8) -> u8
-    ensures { λ r. ⌜ r ≡ cond (eqb burst 2) short long ⌝ }
+    ensures { λ r. ⌜ r ≡ countFor long short burst ⌝ }
 {
     if burst == 2 {
         return short;

@@ -48,11 +48,11 @@ returns-2 c =
     let some = small _ _ e .base-low in
     first _ _ _ some (c .before .if1 .left) (c .if2 .taken) ∙ fetched _ _ _ some _ e
 
-mul-half : tie.Need-mul-half
-mul-half c = search needs
+mul-odd-only : tie.Need-mul-odd-only
+mul-odd-only c = search needs
 
-cast-half : tie.Need-cast-half
-cast-half c = search needs
+cast-odd-only : tie.Need-cast-odd-only
+cast-odd-only c = search needs
 
 returns-3 : tie.Need-returns-3
 returns-3 c =
@@ -61,4 +61,4 @@ returns-3 c =
     odd _ _ _ some (c .before .if1 .left) (c .if2 .left) ∙ fetched _ _ _ some _ e
 
 pub permits-spec : {M : Type 1} → statement M
-permits-spec = tie.close (tie.spec (λ c κs. tt) mul-full returns returns-2 mul-half cast-half returns-3)
+permits-spec = tie.close (tie.spec (λ c κs. tt) mul-full returns returns-2 mul-odd-only cast-odd-only returns-3)

@@ -21,14 +21,14 @@ loop-holds c = search needs
 rem-j : tie.Need-rem-j Inv-loop μ-loop
 rem-j c = search needs
 
+long-count-requires : tie.Need-long-count-requires Inv-loop μ-loop
+long-count-requires c κs = search needs
+
 add-open-seat : tie.Need-add-open-seat Inv-loop μ-loop
 add-open-seat c = search needs
 
 mul-open-seat : tie.Need-mul-open-seat Inv-loop μ-loop
 mul-open-seat c = search needs
-
-mul-open-seat-2 : tie.Need-mul-open-seat-2 Inv-loop μ-loop
-mul-open-seat-2 c = search needs
 
 open-seat-requires : tie.Need-open-seat-requires Inv-loop μ-loop
 open-seat-requires c κs = search needs
@@ -54,9 +54,9 @@ opened-book-spec =
     empty-book-requires
     loop-holds
     rem-j
+    long-count-requires
     add-open-seat
     mul-open-seat
-    mul-open-seat-2
     open-seat-requires
     add-i
     loop-less

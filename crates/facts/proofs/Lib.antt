@@ -3,6 +3,7 @@ pub mod Replies
 pub mod Calls
 pub mod Sequences
 pub mod Permitted
+pub mod Apart
 pub mod Shifts
 pub mod SignalCard
 pub mod Fields

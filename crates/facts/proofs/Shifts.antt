@@ -7,58 +7,15 @@ use mathlib.Core.Logic.{_⊎_, inl, inr, ⊎-elim}
 use Prim.Native.Nat.{ℕ, _+_, _-_, _*_, _<_, _≤_}
 use native.Mathlib.Nat.{mul-le-mul-right, div-add-mod'}
 use native.Mathlib.Omega.{arith}
-use lib.Dec.{lit≤}
-use borrow.Author.Tests.{le-leb, lt-leb, lt-ltb, le-ltb, eq-eqb, ne-eqb}
+use borrow.Author.Tests.{lt-leb, lt-ltb, le-ltb, eq-eqb, ne-eqb}
 use Rattle.laws.proofs.Cases.{below-or-not}
 use Rattle.codes.specs.declared.Code.{Code}
 use Rattle.codes.specs.Codes.{short, long, codeOf, shiftOf, permitted}
-use Rattle.codes.proofs.Numbers.{of-codes}
 use Rattle.codes.proofs.Permitted.{All, First, Odd, user-low, one-setting}
 use Rattle.facts.specs.Permitted.{Apart, leastApart}
-
--- what both codes share: K' steps are a period, and two half steps are no more than a step
-record Spaced (c : Code) : Type 0 where
-  some : 1 ≤ c .base
-  round : c .period ≡ c .base * c .step
-  halves : 2 * c .half ≤ c .step
-
-spaced : (burst : ℕ) → Spaced (codeOf burst)
-spaced =
-    of-codes (λ c. Spaced c) (record { some = lit≤ tt; round = refl; halves = lit≤ tt })
-    (record { some = lit≤ tt; round = refl; halves = lit≤ tt })
-
-turned-round : (P d s t : ℕ) → Apart P d s t → Apart P d t s
-unfolding Apart
-turned-round P d s t a = (⊎-elim (λ h. inr h) (λ h. inl h) (a .0), (a .1 .1, a .1 .0))
+use Rattle.facts.proofs.Apart.{Spaced, spaced, turned-round, steps-apart, low-shift, users-apart}
 
 module _ (c : Code) (sp : Spaced c) where
-  -- g steps lie between two places, and g steps from the higher one round to the lower; what is
-  -- added to each is less than that
-  steps-apart : (g d X Y y z : ℕ) → X + g ≤ Y → Y + g ≤ c .base + X → y + d ≤ g * c .step + z
-      → z + d ≤ g * c .step + y → Apart (c .period) d (X * c .step + y) (Y * c .step + z)
-  unfolding Apart
-  steps-apart g d X Y y z up down hy hz =
-      let u = mul-le-mul-right (c .step) up in
-      let w = mul-le-mul-right (c .step) down in (
-        inl (omega (arith, u, hy)),
-        (omega (arith, u, hy), omega (arith, w, hz, sp .round)),
-      )
-
-  -- ---- users up to K'
-
-  low-shift : (k : ℕ) → k ≤ c .base → shiftOf c k ≡ (c .base - k) * c .step + 0
-  unfolding shiftOf
-  low-shift k h = simp (le-leb k (c .base) h) (omega arith)
-
-  -- two of them that are g users from each other, also round
-  users-apart : (g k l : ℕ) → l ≤ c .base → k + g ≤ l → l + g ≤ c .base + k
-      → Apart (c .period) (g * c .step) (shiftOf c k) (shiftOf c l)
-  users-apart g k l high up down =
-      rw (low-shift k (omega arith), low-shift l high)
-      (turned-round _ _ _ _
-      (steps-apart g (g * c .step) (c .base - l) (c .base - k) 0 0 (omega arith) (omega arith) (omega arith)
-      (omega arith)))
-
   -- ---- users up to 2K': so many steps, and half a step more for those above K'
 
   abbrev Whose : ℕ → ℕ → ℕ → Type 0
@@ -83,7 +40,7 @@ module _ (c : Code) (sp : Spaced c) where
           record {
             steps = c .base - k;
             more = 0;
-            lies = low-shift k h;
+            lies = low-shift c sp k h;
             few = omega (arith, sp .some);
             whose = inl (refl, omega arith);
           }
@@ -119,7 +76,7 @@ module _ (c : Code) (sp : Spaced c) where
       let y = more-high k p in
       let z = more-high l q in
       rw (p .lies, q .lies)
-      (steps-apart 1 (c .half) (p .steps) (q .steps) (p .more) (q .more) (omega arith) (omega (arith, q .few))
+      (steps-apart c sp 1 (c .half) (p .steps) (q .steps) (p .more) (q .more) (omega arith) (omega (arith, q .few))
       (omega (arith, y, sp .halves)) (omega (arith, z, sp .halves)))
 
   -- and exactly half a step between two that have
@@ -192,7 +149,7 @@ module _ (c : Code) (sp : Spaced c) where
 
   under-first : (count k l : ℕ) → First c count k → First c count l → 1 ≤ k → k < l → Goal count k l
   under-first count k l a b low up =
-      rw (least-first count (a .0)) (users-apart 1 k l (b .1) (omega arith) (omega (arith, b .1)))
+      rw (least-first count (a .0)) (users-apart c sp 1 k l (b .1) (omega arith) (omega (arith, b .1)))
 
   -- two odd users are two from each other, and K' is even
   under-odd : (count k l : ℕ) → Odd c count k → Odd c count l → 1 ≤ k → k < l → Goal count k l
@@ -200,7 +157,7 @@ module _ (c : Code) (sp : Spaced c) where
       let dk = div-add-mod' k 2 in
       let dl = div-add-mod' l 2 in
       rw (least-odd count (a .0))
-      (users-apart 2 k l (b .1 .0) (omega (arith, dk, dl, a .1 .1, b .1 .1))
+      (users-apart c sp 2 k l (b .1 .0) (omega (arith, dk, dl, a .1 .1, b .1 .1))
       (omega (arith, dk, dl, a .0, a .1 .1, b .1 .0, b .1 .1)))
 
   -- the two users in their order

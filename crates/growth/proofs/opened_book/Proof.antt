@@ -1,7 +1,6 @@
 -- `growth::opened_book` is safe and ends.
 -- Assumes nothing.
 use Prim.Native.Nat.{_-_, _≤_}
-use native.Mathlib.Omega.{arith}
 use borrow.Author.Needs.{needs}
 use Rattle.growth.proofs.opened_book.Statement.{statement}
 use Rattle.growth.proofs.opened_book.Tie as tie

@@ -1,5 +1,5 @@
--- Document 02, C-13: the users of a wide harbour, and how far apart shifts lie. Cited by
--- proofs/Permitted.antt and proofs/Shifts.antt. Assumes nothing.
+-- Document 02, C-13: the users of a wide harbour, and how far apart shifts lie. Cited by Permitted,
+-- Apart and Shifts of proofs/. Assumes nothing.
 use mathlib.Core.Bool.{cond}
 use mathlib.Core.List.{List, [], _∷_}
 use mathlib.Core.Logic.{_⊎_}

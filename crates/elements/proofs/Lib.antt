@@ -1,2 +1,4 @@
 pub mod Repeats
+pub mod Digits
+pub mod Steps
 pub mod Rows

@@ -1,24 +1,38 @@
 -- What the private functions of this crate promise each other. No reader of a public promise has to believe it.
 -- Assumes nothing.
-use mathlib.Core.Path.{_≡_}
-use mathlib.Core.List.{List}
-use Prim.Native.Nat.{ℕ, _+_, _-_, _*_, _/_, _%_, _^_, _<_, _≤_}
-use lib.ListN.{getD, length}
-use Rattle.elements.specs.Elements.{turned}
+use mathlib.Core.List.{List, [], _∷_, _++_}
+use Prim.Native.Nat.{ℕ, zero, suc, _+_, _-_, _*_, _/_, _%_, _^_, _≤_}
+use lib.ListN.{length, drop}
+use Rattle.laws.specs.Runs.{run}
+use Rattle.elements.specs.Elements.{turned, element}
 
--- bit p of row n, counted from 0, read from a table of rows of w bytes: beyond its 8w bits a row repeats
-unfoldable pub bitIn : List ℕ → ℕ → ℕ → ℕ → ℕ
-bitIn t w n p = getD t (n * w + p % (8 * w) / 8) 0 / 2 ^ (7 - p % (8 * w) % 8) % 2
+-- the digits of a row's bytes: two a byte, the first of them high
+unfoldable pub digitsIn : List ℕ → List ℕ
+digitsIn [] = []
+digitsIn (b ∷ rest) = b / 16 % 16 ∷ b % 16 ∷ digitsIn rest
 
--- element i of row n
-unfoldable pub elementIn : List ℕ → ℕ → ℕ → ℕ → ℕ
-elementIn t w n i = turned i (bitIn t w n (i - 1))
+-- element i of a row of bytes, eight elements a byte
+unfoldable pub elementIn : List ℕ → ℕ → ℕ
+elementIn row i = element (8 * length row) (digitsIn row) i
 
--- a table of 128 rows of w bytes that has row n, and a first element to read that is not too far
-pub record Reads (t : List ℕ) (w n i : ℕ) : Type 0 where
-  pub rows : length t ≡ 128 * w
-  pub width-low : 1 ≤ w
-  pub width-high : w ≤ 57
-  pub row-high : n < 128
-  pub first : 1 ≤ i
-  pub last : i < 65536
+-- memory that n elements were written into, the first of them element by + 1: behind them it is as it was
+abbrev pub elementsAfter : List ℕ → ℕ → ℕ → List ℕ → List ℕ
+elementsAfter row by n out = run (λ (i : ℕ). elementIn row (i + by)) n ++ drop n out
+
+-- element e of a digit, 1 to 4, as its power of j: the highest bit first
+unfoldable pub powerIn : ℕ → ℕ → ℕ
+powerIn d e = turned e (d / 2 ^ (4 - e) % 2)
+
+-- the four elements of a digit
+unfoldable pub fourOf : ℕ → List ℕ
+fourOf d = run (λ (e : ℕ). powerIn d e) 4
+
+-- those of each digit below n
+unfoldable pub foursOf : ℕ → List (List ℕ)
+foursOf zero = []
+foursOf (suc n) = foursOf n ++ (fourOf n ∷ [])
+
+-- a row of bytes: there is one, and not too many
+pub record Row (row : List ℕ) : Type 0 where
+  pub some : 1 ≤ length row
+  pub few : length row ≤ 57

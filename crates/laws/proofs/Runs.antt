@@ -1,14 +1,14 @@
 -- A run of values is written from the front, one a turn.
 -- Assumes nothing.
 use mathlib.Core.Path.{_≡_, refl, sym, ap, _∙_}
-use mathlib.Core.List.{List, [], _∷_, _++_}
+use mathlib.Core.List.{List, [], _∷_, _++_, append-assoc, append-nil}
 use mathlib.Core.Logic.{⊎-elim}
-use Prim.Native.Nat.{ℕ, zero, suc, _+_, _<_, _≤_}
-use native.Mathlib.Nat.{eq-or-lt-of-le, le-of-suc-le-suc}
+use Prim.Native.Nat.{ℕ, zero, suc, _+_, _-_, _<_, _≤_}
+use native.Mathlib.Nat.{eq-or-lt-of-le, le-of-suc-le-suc, add-zero, add-suc}
 use native.Mathlib.Numerals.{add-one}
 use native.Mathlib.Omega.{arith}
-use lib.ListN.{length, set, drop, getD, length-append, List·getD-append}
-use lib.Seq.{drop-cons, set-at, append-snoc, getD-at}
+use lib.ListN.{length, set, take, drop, getD, length-append, length-drop, drop-of-length-le, List·getD-append}
+use lib.Seq.{drop-cons, set-at, append-snoc, getD-at, take-at, take-all, drop-at, drop-drop}
 use Rattle.laws.specs.Runs.{run}
 
 pub run-length : (f : ℕ → ℕ) (n : ℕ) → length (run f n) ≡ n
@@ -43,8 +43,50 @@ run-at f (suc n) p h =
     (eq-or-lt-of-le (le-of-suc-le-suc h))
 
 -- two runs are equal where their values are
-pub run-same : (f g : ℕ → ℕ) (n : ℕ) → ((i : ℕ) → 1 ≤ i → f i ≡ g i) → run f n ≡ run g n
+pub run-alike : (f g : ℕ → ℕ) (n : ℕ) → ((i : ℕ) → 1 ≤ i → i ≤ n → f i ≡ g i) → run f n ≡ run g n
 unfolding run
-run-same f g zero h = refl
-run-same f g (suc n) h =
-    ap (λ (l : List ℕ). l ++ (f (n + 1) ∷ [])) (run-same f g n h) ∙ ap (λ (x : ℕ). run g n ++ (x ∷ [])) (h (n + 1) (omega arith))
+run-alike f g zero h = refl
+run-alike f g (suc n) h =
+    ap (λ (l : List ℕ). l ++ (f (n + 1) ∷ [])) (run-alike f g n (λ i low high. h i low (omega arith)))
+    ∙ ap (λ (x : ℕ). run g n ++ (x ∷ [])) (h (n + 1) (omega arith) (omega arith))
+
+pub run-same : (f g : ℕ → ℕ) (n : ℕ) → ((i : ℕ) → 1 ≤ i → f i ≡ g i) → run f n ≡ run g n
+run-same f g n h = run-alike f g n (λ i low high. h i low)
+
+-- a run cut anywhere: its first a values, and the run of those behind them
+pub run-cut : (f : ℕ → ℕ) (a m : ℕ) → run f (a + m) ≡ run f a ++ run (λ (i : ℕ). f (i + a)) m
+unfolding run
+run-cut f a zero = ap (run f) (add-zero a) ∙ sym (append-nil (run f a))
+run-cut f a (suc m) =
+    let same : a + m + 1 ≡ m + 1 + a = omega arith in
+    ap (run f) (add-suc a m)
+    ∙ ap (λ (l : List ℕ). l ++ (f (a + m + 1) ∷ [])) (run-cut f a m)
+    ∙ ap (λ (k : ℕ). (run f a ++ run (λ (i : ℕ). f (i + a)) m) ++ (f k ∷ [])) same
+    ∙ append-assoc (run f a) (run (λ (i : ℕ). f (i + a)) m) (f (m + 1 + a) ∷ [])
+
+-- how long what a run was written into is: as long as it was
+pub run-fits : (f : ℕ → ℕ) (n : ℕ) (d : List ℕ) → n ≤ length d → length (run f n ++ drop n d) ≡ length d
+run-fits f n d h = length-append (run f n) (drop n d) ∙ omega (arith, run-length f n, length-drop n d)
+
+-- the rest of a slice from place a on, as it is lent by `&mut out[a..]`
+pub rest-is : (a : ℕ) (out : List ℕ) → take (length out - a) (drop a out) ≡ drop a out
+rest-is a out = take-all (length out - a) (drop a out) (omega (arith, length-drop a out))
+
+pub rest-length : (a : ℕ) (out : List ℕ) → length (take (length out - a) (drop a out)) ≡ length out - a
+rest-length a out = ap length (rest-is a out) ∙ length-drop a out
+
+-- behind a values that stand already, m more are written by somebody who was lent that rest, and the rest is put back
+pub run-behind : (f g : ℕ → ℕ) (a m : ℕ) (d out part : List ℕ) → out ≡ run f a ++ drop a d
+    → part ≡ run g m ++ drop m (take (length out - a) (drop a out)) → ((i : ℕ) → 1 ≤ i → i ≤ m → g i ≡ f (i + a))
+    → take a out ++ (part ++ drop (length out - a) (drop a out)) ≡ run f (a + m) ++ drop (a + m) d
+run-behind f g a m d out part e p same =
+    let front : take a out ≡ run f a = ap (take a) e ∙ take-at (run f a) (drop a d) a (run-length f a) in
+    let back : drop a out ≡ drop a d = ap (drop a) e ∙ drop-at (run f a) (drop a d) a (run-length f a) in
+    let none : drop (length out - a) (drop a out) ≡ [] = drop-of-length-le (drop a out) {i = length out - a} (omega (arith, length-drop a out)) in
+    let written : part ≡ run (λ (i : ℕ). f (i + a)) m ++ drop (a + m) d =
+    p ∙ ap (λ (l : List ℕ). run g m ++ drop m l) (rest-is a out ∙ back) ∙ rw (run-alike g (λ (i : ℕ). f (i + a)) m same, drop-drop m a d) in
+    ap (λ (l : List ℕ). l ++ (part ++ drop (length out - a) (drop a out))) front
+    ∙ ap (λ (l : List ℕ). run f a ++ (part ++ l)) none
+    ∙ ap (λ (l : List ℕ). run f a ++ l) (append-nil part ∙ written)
+    ∙ sym (append-assoc (run f a) (run (λ (i : ℕ). f (i + a)) m) (drop (a + m) d))
+    ∙ ap (λ (l : List ℕ). l ++ drop (a + m) d) (sym (run-cut f a m))

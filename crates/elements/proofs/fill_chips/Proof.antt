@@ -1,46 +1,44 @@
--- `elements::fill_chips` meets its contract: the burst type picks the table, and reading it is reading the row.
+-- `elements::fill_chips` meets its contract: as many elements as a midamble of the code has chips.
 -- Assumes nothing.
+use mathlib.Core.Path.{ap, _∙_}
+use mathlib.Core.List.{[], _++_}
+use Prim.Native.Nat.{ℕ, _+_}
 use native.Mathlib.Omega.{arith}
-use Rattle.elements.proofs.Rows.{short-holds, long-holds, filled}
+use lib.ListN.{getD, drop}
+use denote.Ref.{now}
 use borrow.Author.Needs.{needs}
+use Rattle.laws.specs.Runs.{run}
+use Rattle.codes.specs.declared.Code.{Code}
+use Rattle.codes.specs.Codes.{codeOf}
+use Rattle.codes.proofs.Numbers.{length-high}
+use Rattle.elements.specs.Elements.{rowsOf, element}
 use Rattle.elements.proofs.fill_chips.Statement.{statement}
 use Rattle.elements.proofs.fill_chips.Tie as tie
 
-slice-aggregate-fill-from : tie.Need-slice-aggregate-fill-from
-slice-aggregate-fill-from c = search needs
+code-of-requires : tie.Need-code-of-requires
+code-of-requires c κs = search needs
 
-fill-from-requires : tie.Need-fill-from-requires
-fill-from-requires c κs = (search needs, omega (arith, (short-holds _ _ (c .before .before .before .if1 .taken) (c .before .before .short-table .ensures)) .chips))
+cast-fill-elements : tie.Need-cast-fill-elements
+cast-fill-elements c = search needs
+
+fill-elements-requires : tie.Need-fill-elements-requires
+fill-elements-requires c κs =
+    let a = c .before .before .before .args in
+    let same = ap (λ (x : Code). x .length) (c .before .code-of .ensures) in
+    let q = c .before .before .before .pre in
+    (q .0, q .1, omega (arith, same, length-high (a .burst)), omega (arith, same, q .2))
 
 same-length : tie.Need-same-length
 same-length c = search needs
 
 returns : tie.Need-returns
-returns c = filled _ _ _ _ (short-holds _ _ (c .before .before .before .before .before .before .if1 .taken) (c .before .before .before .before .before .short-table .ensures)) _ (c .before .before .before .before .before .before .before .before .pre .0) _ _ _ (c .before .before .fill-from .ensures)
-
-slice-aggregate-fill-from-2 : tie.Need-slice-aggregate-fill-from-2
-slice-aggregate-fill-from-2 c = search needs
-
-fill-from-requires-2 : tie.Need-fill-from-requires-2
-fill-from-requires-2 c κs = (search needs, omega (arith, (long-holds _ _ (c .before .before .before .if1 .left) (c .before .before .long-table .ensures)) .chips))
-
-same-length-2 : tie.Need-same-length-2
-same-length-2 c = search needs
-
-returns-2 : tie.Need-returns-2
-returns-2 c = filled _ _ _ _ (long-holds _ _ (c .before .before .before .before .before .before .if1 .left) (c .before .before .before .before .before .long-table .ensures)) _ (c .before .before .before .before .before .before .before .before .pre .0) _ _ _ (c .before .before .fill-from2 .ensures)
+returns c =
+    let a = c .before .before .before .before .before .before .args in
+    let same = ap (λ (x : Code). x .length) (c .before .before .before .before .code-of .ensures) in
+    c .before .before .fill-elements .ensures
+    ∙ ap (λ (n : ℕ). run (λ (i : ℕ). element (codeOf (a .burst) .period) (getD (rowsOf (a .burst)) (a .cell) []) (i + a .by)) n ++ drop n (now (a .out))) same
 
 pub fill-chips-spec : {M : Type 1} → statement M
 fill-chips-spec =
     tie.close
-    (tie.spec
-    (λ c κs. tt)
-    slice-aggregate-fill-from
-    fill-from-requires
-    same-length
-    returns
-    (λ c κs. tt)
-    slice-aggregate-fill-from-2
-    fill-from-requires-2
-    same-length-2
-    returns-2)
+    (tie.spec code-of-requires cast-fill-elements fill-elements-requires same-length returns)

@@ -1,4 +1,4 @@
--- `elements::power_of` meets its contract: the turn by j to the power of the element, with no branch: bit 0 adds 2.
+-- `elements::reading::power_of` meets its contract: the turn by j to the power of the element, with no branch: bit 0 adds 2.
 -- Assumes nothing.
 use mathlib.Core.Path.{_≡_, refl}
 use mathlib.Core.Bool.{Bool, true, false, cond}
@@ -8,8 +8,8 @@ use lib.Dec.{eqb}
 use borrow.Author.Tests.{eqb-true, eqb-false}
 use Rattle.elements.specs.Elements.{turned}
 use borrow.Author.Needs.{needs}
-use Rattle.elements.proofs.power_of.Statement.{statement}
-use Rattle.elements.proofs.power_of.Tie as tie
+use Rattle.elements.proofs.reading.power_of.Statement.{statement}
+use Rattle.elements.proofs.reading.power_of.Tie as tie
 
 by-test : (z : Bool) (i bit : ℕ) → bit < 2 → eqb bit 1 ≡ z → (i + 2 * (1 - bit)) % 4 ≡ cond z (i % 4) ((i + 2) % 4)
 by-test true i bit h e = let k = eqb-true bit 1 e in omega arith

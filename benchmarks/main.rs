@@ -8,6 +8,7 @@
 //! `benchmarks/run` builds and runs this; with the word `growth` the growth alone. Standard library only.
 
 mod book;
+mod copies;
 mod dice;
 mod growth;
 mod limits;
@@ -20,10 +21,22 @@ mod signal_card;
 mod table;
 mod timeslots;
 
+use copies::{TableCopy, LONG_COPY, SHORT_COPY};
 use limits::Limit;
 use std::process::exit;
 
 const ROUNDS: usize = 201;
+
+/// What the marks of the table mean.
+fn notes(lines: &[table::Line]) {
+    let best = |copy: &TableCopy| {
+        let rounds = lines.iter().filter_map(|line| line.best_of(copy));
+        format!("{:.1} ns of {}", rounds.fold(f64::INFINITY, f64::min), copy.what)
+    };
+    let (long, short) = (best(&LONG_COPY), best(&SHORT_COPY));
+    println!("\n(*) less the copy of the row table: {long}, {short}, in this run; beside plain Rust that reads each digit once");
+    println!("(**) for information, less the same copy: plain Rust that makes the floats of all sixteen digits at the level first");
+}
 
 /// The table of all calls; whether its limits hold.
 fn calls() -> bool {
@@ -57,17 +70,18 @@ fn calls() -> bool {
     for line in &lines {
         line.print();
     }
-    println!(
-        "\n(*) for information: plain Rust's quickest loop that we know of for a whole midamble"
-    );
-    println!(
-        "(**) for information: plain Rust that reads each chip and writes its two floats at once"
-    );
-    let limits: [&Limit; 4] =
-        [&limits::MIDAMBLE, &limits::PAIRS, &limits::PAGE, &limits::EMPTY_BOOK];
+    notes(&lines);
+    let limits: [&Limit; 6] = [
+        &limits::MIDAMBLE,
+        &limits::MIDAMBLE_BY_DIGITS,
+        &limits::PAIRS,
+        &limits::PAIRS_BY_DIGITS,
+        &limits::PAGE,
+        &limits::EMPTY_BOOK,
+    ];
     let held =
         limits.map(|limit| limit.holds(lines.iter().filter_map(|line| line.ratio_of(limit))));
-    held == [true; 4]
+    held == [true; 6]
 }
 
 /// The table of the growth; whether its limit holds.

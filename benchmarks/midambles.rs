@@ -1,11 +1,17 @@
 //! One chip and whole midambles.
 
+use crate::copies::copy_of;
 use crate::dice::same;
 use crate::limits;
 use crate::plain::midambles as plain;
 use crate::table::Line;
 use library::MqAnswer;
 use std::hint::black_box;
+
+type Midamble = fn(u32, u32, u32, u32, &mut [u8]) -> MqAnswer;
+
+/// The digit read for every chip, and each digit read once.
+const FORMS: [Midamble; 2] = [plain::midamble, plain::midamble_by_digits];
 
 /// Every cell, type, count and user and the numbers just outside, lent memory of several lengths, every chip.
 pub fn compare() -> u32 {
@@ -16,15 +22,16 @@ pub fn compare() -> u32 {
                 for user in (0..=17).chain([u32::MAX]) {
                     for length in [0, 255, 256, 257, 511, 512, 600] {
                         let mut a = [0xA5; 600];
-                        let (mut b, mut c) = (a, a);
                         let r = library::midamble(cell, burst, count, user, &mut a[..length]);
-                        let s = plain::midamble(cell, burst, count, user, &mut b[..length]);
-                        let t = plain::without_branch(cell, burst, count, user, &mut c[..length]);
-                        let what = || {
-                            format!("midamble {cell} {burst} {count} {user}, {length} bytes lent")
-                        };
-                        same((r, a), (s, b), what);
-                        same((r, a), (t, c), what);
+                        for plain in FORMS {
+                            let mut b = [0xA5; 600];
+                            let s = plain(cell, burst, count, user, &mut b[..length]);
+                            same((r, a), (s, b), || {
+                                format!(
+                                    "midamble {cell} {burst} {count} {user}, {length} bytes lent"
+                                )
+                            });
+                        }
                         compared += 1;
                     }
                     let last = if library::chip(cell, burst, count, user, 1).refusal == 0 {
@@ -53,8 +60,6 @@ pub fn users(count: u32) -> impl Iterator<Item = (u32, u32)> {
     (0..128).flat_map(move |cell| (1..=16).filter(permitted).map(move |user| (cell, user)))
 }
 
-type Midamble = fn(u32, u32, u32, u32, &mut [u8]) -> MqAnswer;
-
 /// All cells and users. Memory is not cleared between the calls.
 fn whole(what: &'static str, burst: u32, count: u32, plain: Midamble) -> Line {
     let inputs = users(count).collect();
@@ -65,6 +70,13 @@ fn whole(what: &'static str, burst: u32, count: u32, plain: Midamble) -> Line {
     Line::new(what, inputs, library, move |&(cell, user)| {
         plain(cell, burst, count, user, black_box(&mut theirs))
     })
+}
+
+/// Less the copy of the row table, beside plain Rust that reads each digit once.
+fn by_digits(what: &'static str, burst: u32, count: u32) -> Line {
+    whole(what, burst, count, plain::midamble_by_digits)
+        .less(copy_of(burst))
+        .with_limit(&limits::MIDAMBLE_BY_DIGITS)
 }
 
 /// All cells and users, and some chips of each.
@@ -86,7 +98,7 @@ pub fn lines() -> Vec<Line> {
         whole("midamble, type 1", 1, 16, plain::midamble).with_limit(&limits::MIDAMBLE),
         whole("midamble, type 2", 2, 6, plain::midamble).with_limit(&limits::MIDAMBLE),
         whole("midamble, type 1, count 4", 1, 4, plain::midamble).with_limit(&limits::MIDAMBLE),
-        whole("type 1, without a branch (*)", 1, 16, plain::without_branch),
-        whole("type 2, without a branch (*)", 2, 6, plain::without_branch),
+        by_digits("type 1, each digit once (*)", 1, 16),
+        by_digits("type 2, each digit once (*)", 2, 6),
     ]
 }

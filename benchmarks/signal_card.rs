@@ -1,5 +1,6 @@
 //! Chips for the signal card: one pair, and whole rows.
 
+use crate::copies::copy_of;
 use crate::dice::same;
 use crate::limits;
 use crate::midambles::users;
@@ -7,6 +8,11 @@ use crate::plain::signal_card as plain;
 use crate::table::Line;
 use library::MqAnswer;
 use std::hint::black_box;
+
+type Pairs = fn(u32, u32, u32, u32, u32, &mut [f32]) -> MqAnswer;
+
+/// The digit read for every chip, each digit read once, and all sixteen digits at the level first.
+const FORMS: [Pairs; 3] = [plain::pairs, plain::pairs_by_digits, plain::pairs_by_sixteen];
 
 /// The bits of a row.
 fn bits(row: &[f32]) -> Vec<u32> {
@@ -34,14 +40,16 @@ pub fn compare() -> u32 {
 fn one(cell: u32, burst: u32, count: u32, user: u32, level: u32) -> u32 {
     let mut compared = 0;
     for length in [0, 511, 512, 513, 1023, 1024, 1100] {
-        let mut a = [f32::from_bits(0x7FA0_1234); 1100];
-        let (mut b, mut c) = (a, a);
+        let lent = [f32::from_bits(0x7FA0_1234); 1100];
+        let mut a = lent;
         let r = library::pairs(cell, burst, count, user, level, &mut a[..length]);
-        let s = plain::pairs(cell, burst, count, user, level, &mut b[..length]);
-        let t = plain::pairs_at_once(cell, burst, count, user, level, &mut c[..length]);
-        let what = || format!("pairs {cell} {burst} {count} {user} {level}, {length} floats lent");
-        same((r, bits(&a)), (s, bits(&b)), what);
-        same((r, bits(&a)), (t, bits(&c)), what);
+        for plain in FORMS {
+            let mut b = lent;
+            let s = plain(cell, burst, count, user, level, &mut b[..length]);
+            same((r, bits(&a)), (s, bits(&b)), || {
+                format!("pairs {cell} {burst} {count} {user} {level}, {length} floats lent")
+            });
+        }
         compared += 1;
     }
     let answered = library::pair(cell, burst, count, user, 1, level).refusal == 0;
@@ -56,8 +64,6 @@ fn one(cell: u32, burst: u32, count: u32, user: u32, level: u32) -> u32 {
     compared
 }
 
-type Pairs = fn(u32, u32, u32, u32, u32, &mut [f32]) -> MqAnswer;
-
 /// All cells and users, at levels that change from one to the next. The row is not cleared between the calls.
 fn whole(what: &'static str, burst: u32, count: u32, plain: Pairs) -> Line {
     let inputs = users(count).collect();
@@ -69,6 +75,11 @@ fn whole(what: &'static str, burst: u32, count: u32, plain: Pairs) -> Line {
     Line::new(what, inputs, library, move |&(cell, user)| {
         plain(cell, burst, count, user, level(cell, user), black_box(&mut theirs))
     })
+}
+
+/// Less the copy of the row table, beside plain Rust that reads each digit once.
+fn by_digits(what: &'static str, burst: u32, count: u32, plain: Pairs) -> Line {
+    whole(what, burst, count, plain).less(copy_of(burst))
 }
 
 /// All cells and users, and some chips of each.
@@ -89,7 +100,11 @@ pub fn lines() -> Vec<Line> {
         one_pair("one pair, type 2", 2, 6),
         whole("row of pairs, type 1", 1, 16, plain::pairs).with_limit(&limits::PAIRS),
         whole("row of pairs, type 2", 2, 6, plain::pairs).with_limit(&limits::PAIRS),
-        whole("type 1, in one loop (**)", 1, 16, plain::pairs_at_once),
-        whole("type 2, in one loop (**)", 2, 6, plain::pairs_at_once),
+        by_digits("type 1, pairs by digits (*)", 1, 16, plain::pairs_by_digits)
+            .with_limit(&limits::PAIRS_BY_DIGITS),
+        by_digits("type 2, pairs by digits (*)", 2, 6, plain::pairs_by_digits)
+            .with_limit(&limits::PAIRS_BY_DIGITS),
+        by_digits("type 1, 16 digits first (**)", 1, 16, plain::pairs_by_sixteen),
+        by_digits("type 2, 16 digits first (**)", 2, 6, plain::pairs_by_sixteen),
     ]
 }

@@ -1,5 +1,7 @@
-//! Midambles: the same tests and the same arithmetic for each chip as the library, over tables that lie in memory.
+//! Midambles: the same tests as the library, over tables that lie in memory. One loop reads the digit for every chip,
+//! another each digit once for its four.
 
+use super::digits::{self, row_of, POWERS};
 use crate::rows;
 use library::MqAnswer;
 
@@ -63,7 +65,7 @@ pub fn shift(c: &Code, user: u32) -> u32 {
 }
 
 /// Element chip + by of row n of a table of rows of w bytes, as its power of j.
-pub fn element_in(t: &[u8], w: u32, n: u32, chip: u32, by: u32) -> u8 {
+fn element_in(t: &[u8], w: u32, n: u32, chip: u32, by: u32) -> u8 {
     let i = chip + by;
     let p = (i - 1) % (8 * w);
     let b = t[(n * w + p / 8) as usize];
@@ -71,6 +73,7 @@ pub fn element_in(t: &[u8], w: u32, n: u32, chip: u32, by: u32) -> u8 {
     ((i + 2 * (1 - bit as u32)) % 4) as u8
 }
 
+/// Reads the digit for every chip.
 pub fn fill_from(t: &[u8], w: u32, n: u32, by: u32, count: usize, out: &mut [u8]) {
     let mut i = 0;
     while i < count {
@@ -101,20 +104,22 @@ pub fn midamble(cell: u32, burst: u32, count: u32, user: u32, out: &mut [u8]) ->
     whole(cell, burst, count, user, out, fill_from)
 }
 
-/// The other loop: the row as a slice of its own, and the bit added instead of tested.
-fn fill_without_branch(t: &[u8], w: u32, n: u32, by: u32, count: usize, out: &mut [u8]) {
-    let row = &t[(n * w) as usize..((n + 1) * w) as usize];
-    for (k, o) in out[..count].iter_mut().enumerate() {
-        let i = k as u32 + 1 + by;
-        let p = (i - 1) % (8 * w);
-        let bit = (row[(p / 8) as usize] as u32 >> (7 - p % 8)) % 2;
-        *o = ((i + 2 * (1 - bit)) % 4) as u8;
-    }
+/// Fills as fill_from does, but reads each digit once.
+fn fill_by_digits(t: &[u8], w: u32, n: u32, by: u32, count: usize, out: &mut [u8]) {
+    digits::fill(row_of(t, w, n), by, 1, &mut out[..count], |d, skipped, place| {
+        place.copy_from_slice(&POWERS[d][skipped..skipped + place.len()]);
+    });
 }
 
 #[inline(never)]
-pub fn without_branch(cell: u32, burst: u32, count: u32, user: u32, out: &mut [u8]) -> MqAnswer {
-    whole(cell, burst, count, user, out, fill_without_branch)
+pub fn midamble_by_digits(
+    cell: u32,
+    burst: u32,
+    count: u32,
+    user: u32,
+    out: &mut [u8],
+) -> MqAnswer {
+    whole(cell, burst, count, user, out, fill_by_digits)
 }
 
 #[inline(always)]

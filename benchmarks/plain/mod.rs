@@ -2,6 +2,7 @@
 //! refusals. No call here is inlined into the timing loops: the library's cannot be either.
 
 pub mod book;
+pub mod digits;
 pub mod midambles;
 pub mod paging;
 pub mod refusals;

@@ -1,4 +1,5 @@
 // A run of a row's elements, written into lent memory (document 02, C-14): it starts and ends anywhere, and each digit is read once for its four elements.
+// Public for this crate's root, whose functions lend a row.
 use crate::reading;
 ghost use mathlib.Core.Path.{_≡_};
 ghost use mathlib.Core.List.{_++_};

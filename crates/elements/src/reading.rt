@@ -1,4 +1,4 @@
-// A row out of a table, its digits, and one of its elements.
+// A row out of a table, its digits, and one of its elements. What is public here is so for this crate's other files.
 ghost use mathlib.Core.Path.{_≡_};
 ghost use Prim.Native.Nat.{_<_, _≤_, _+_, _*_, _%_};
 ghost use lib.ListN.{getD, take, drop, length};

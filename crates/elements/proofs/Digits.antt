@@ -14,7 +14,7 @@ use Rattle.code_text.proofs.Reading.{packed-length, packed-at}
 use Rattle.elements.specs.Inside.{digitsIn, powerIn, fourOf, foursOf}
 
 -- two digits a byte
-pub digits-length : (row : List ℕ) → length (digitsIn row) ≡ 2 * length row
+digits-length : (row : List ℕ) → length (digitsIn row) ≡ 2 * length row
 unfolding digitsIn
 digits-length [] = refl
 digits-length (b ∷ rest) = omega (arith, digits-length rest)
@@ -75,7 +75,7 @@ fours-at (suc n) d h =
     (λ (l : d < n). List·getD-append (foursOf n) (fourOf n ∷ []) [] d (omega (arith, fours-length n)) ∙ fours-at n d l)
     (eq-or-lt-of-le (le-of-suc-le-suc h))
 
--- its entry for a digit, at place e from 0
-pub power-at : (powers : List (List ℕ)) (d e : ℕ) → powers ≡ foursOf 16 → d < 16 → e < 4 → getD (getD powers d []) e 0 ≡ powerIn d (e + 1)
+-- its entry for a digit, at place k from 0
+pub power-at : (powers : List (List ℕ)) (d k : ℕ) → powers ≡ foursOf 16 → d < 16 → k < 4 → getD (getD powers d []) k 0 ≡ powerIn d (k + 1)
 unfolding fourOf
-power-at powers d e p h l = ap (λ (t : List (List ℕ)). getD (getD t d []) e 0) p ∙ ap (λ (four : List ℕ). getD four e 0) (fours-at 16 d h) ∙ run-at (λ (k : ℕ). powerIn d k) 4 e l
+power-at powers d k p h l = ap (λ (t : List (List ℕ)). getD (getD t d []) k 0) p ∙ ap (λ (four : List ℕ). getD four k 0) (fours-at 16 d h) ∙ run-at (λ (e : ℕ). powerIn d e) 4 k l

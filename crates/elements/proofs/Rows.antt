@@ -60,6 +60,10 @@ long-holds burst t b e =
       small = simp (ne-eqb _ _ b) (long-proper .digit);
     }
 
+-- a slice that elements of a cell's row were written into, by the rows that serve a burst type
+abbrev served : ℕ → ℕ → ℕ → ℕ → List ℕ → List ℕ
+served burst cell by count out = run (λ (i : ℕ). element (codeOf burst .period) (getD (rowsOf burst) cell []) (i + by)) count ++ drop count out
+
 module _ (burst w : ℕ) (t : List ℕ) (held : Holds burst w t) (cell : ℕ) (h : cell < 128) (row : List ℕ) (lent : row ≡ take w (drop (cell * w) t)) where
   is-packed : row ≡ packed w (getD (rowsOf burst) cell [])
   is-packed =
@@ -84,6 +88,14 @@ module _ (burst w : ℕ) (t : List ℕ) (held : Holds burst w t) (cell : ℕ) (h
       ∙ ap (λ (l : List ℕ). element (8 * w) l i) digits
       ∙ ap (λ (P : ℕ). element P (getD (rowsOf burst) cell []) i) (sym (held .period))
 
-  -- a slice that a run of elements was written into
-  pub filled : (by count : ℕ) (d l : List ℕ) → l ≡ elementsAfter row by count d → l ≡ run (λ (i : ℕ). of-cell (i + by)) count ++ drop count d
-  filled by count d l e = e ∙ ap (λ (x : List ℕ). x ++ drop count d) (run-same _ _ count (λ i low. read-at (i + by)))
+  pub filled : (by count : ℕ) (out l : List ℕ) → l ≡ elementsAfter row by count out → l ≡ served burst cell by count out
+  filled by count out l e = e ∙ ap (λ (x : List ℕ). x ++ drop count out) (run-same _ _ count (λ i low. read-at (i + by)))
+
+-- type 2 has the short rows, every other the long ones, as type 1 has
+module _ (burst cell by count : ℕ) (out l : List ℕ) where
+  pub short-served : burst ≡ 2 → l ≡ served 2 cell by count out → l ≡ served burst cell by count out
+  short-served b e = e ∙ ap (λ (k : ℕ). served k cell by count out) (sym b)
+
+  pub long-served : (burst ≡ 2 → ⊥) → l ≡ served 1 cell by count out → l ≡ served burst cell by count out
+  unfolding codeOf rowsOf
+  long-served b e = simp (ne-eqb _ _ b) e

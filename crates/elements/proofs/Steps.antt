@@ -6,18 +6,11 @@ use mathlib.Core.Logic.{_⊎_, ⊎-elim}
 use Prim.Native.Nat.{ℕ, _+_, _-_, _*_, _/_, _%_, _<_, _≤_}
 use native.Mathlib.Nat.{mod-eq-of-lt, mod-self, mod-add-mod}
 use native.Mathlib.Omega.{arith}
-use lib.ListN.{length, getD, take, drop}
-use Rattle.laws.proofs.Runs.{run-behind, run-fits, rest-length}
+use lib.ListN.{length, getD, drop}
+use Rattle.laws.proofs.Runs.{rest, put-back, run-behind, run-fits, rest-length}
 use Rattle.elements.specs.Inside.{Row, digitsIn, elementIn, elementsAfter, powerIn, fourOf, foursOf}
 use Rattle.elements.proofs.Digits.{digit-low, power-at}
 use Rattle.elements.proofs.Repeats.{element-of-digit, digit-again}
-
--- a slice whose rest, from place a on, was lent and came back as `part`
-abbrev put-back : ℕ → List ℕ → List ℕ → List ℕ
-put-back a out part = take a out ++ (part ++ drop (length out - a) (drop a out))
-
-abbrev rest : ℕ → List ℕ → List ℕ
-rest a out = take (length out - a) (drop a out)
 
 module _ (row : List ℕ) (good : Row row) where
   digits : 2 * length row ≡ 8 * length row / 4

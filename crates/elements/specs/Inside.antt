@@ -32,7 +32,7 @@ unfoldable pub foursOf : ℕ → List (List ℕ)
 foursOf zero = []
 foursOf (suc n) = foursOf n ++ (fourOf n ∷ [])
 
--- a row of bytes: there is one, and not too many
+-- a row of bytes that can be read: at least one byte, and at most 57, as the long rows have
 pub record Row (row : List ℕ) : Type 0 where
   pub some : 1 ≤ length row
   pub few : length row ≤ 57

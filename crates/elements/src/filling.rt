@@ -57,7 +57,7 @@ fn fill_piece(powers: &[[u8; 4]; 16], row: &[u8], by: usize, count: usize, out: 
     if count == 0 {
         return;
     }
-    let d = reading::digit_at(row, by / 4 % (2 * row.len())) as usize;
+    let d = reading::digit_of(row, by) as usize;
     let four = powers[d];
     let passed = by % 4;
     let mut i: usize = 0;
@@ -76,8 +76,8 @@ fn fill_stretch(powers: &[[u8; 4]; 16], row: &[u8], g: usize, digits: usize, out
     let mut k: usize = 0;
     while k < digits {
         let digit = reading::digit_at(row, g + k);
-        let at = 4 * k;
-        put_four(powers, digit, &mut out[at..]);
+        let start = 4 * k;
+        put_four(powers, digit, &mut out[start..]);
         k += 1;
     }
 }
@@ -110,7 +110,7 @@ fn fill_digits(powers: &[[u8; 4]; 16], row: &[u8], g: usize, digits: usize, out:
     }
 }
 
-// How many elements after element `by` stand before the next digit begins: none where `by` ends a digit.
+// How many elements after element `by` stand before the next digit begins, remainder by remainder: none where `by` ends a digit.
 fn before_digit(by: usize) -> usize
     ensures { λ r. ⌜ r ≡ (4 - by % 4) % 4 ⌝ }
 {

@@ -24,18 +24,35 @@ pub fn chip_at(cell: u32, burst: u32, chip: u32, by: u32) -> u8
     reading::element_in(reading::row_of(&t, 57, cell), chip, by)
 }
 
-// As many elements of a cell's row as `count`, the first of them element by + 1, into the first places of `out`.
+// As many elements of a cell's short row as `count`, the first of them element by + 1, into the first places of `out`. Apart from the long ones, so that a call has one of the tables on
+// its stack and not both.
+fn fill_short(cell: u32, by: u32, count: usize, out: &mut [u8])
+    requires { ⌜ (cell < 128) × (by < 2048) × (count ≤ 512) × (count ≤ length (now out)) ⌝ }
+    ensures { λ _. ⌜ now (out .exit) ≡ run (λ (i : ℕ). element (codeOf 2 .period) (getD (rowsOf 2) cell []) (i + by)) count ++ drop count (now (out .entry)) ⌝ }
+{
+    let t = code_rows::short_table();
+    filling::fill_from(reading::row_of(&t, 24, cell), by as usize, count, out);
+}
+
+// The same of a cell's long row.
+fn fill_long(cell: u32, by: u32, count: usize, out: &mut [u8])
+    requires { ⌜ (cell < 128) × (by < 2048) × (count ≤ 512) × (count ≤ length (now out)) ⌝ }
+    ensures { λ _. ⌜ now (out .exit) ≡ run (λ (i : ℕ). element (codeOf 1 .period) (getD (rowsOf 1) cell []) (i + by)) count ++ drop count (now (out .entry)) ⌝ }
+{
+    let t = code_rows::long_table();
+    filling::fill_from(reading::row_of(&t, 57, cell), by as usize, count, out);
+}
+
+// The same of the row that serves a burst type.
 fn fill_elements(cell: u32, burst: u32, by: u32, count: usize, out: &mut [u8])
     requires { ⌜ (cell < 128) × (by < 2048) × (count ≤ 512) × (count ≤ length (now out)) ⌝ }
     ensures { λ _. ⌜ now (out .exit) ≡ run (λ (i : ℕ). element (codeOf burst .period) (getD (rowsOf burst) cell []) (i + by)) count ++ drop count (now (out .entry)) ⌝ }
 {
     if burst == 2 {
-        let t = code_rows::short_table();
-        filling::fill_from(reading::row_of(&t, 24, cell), by as usize, count, out);
+        fill_short(cell, by, count, out);
         return;
     }
-    let t = code_rows::long_table();
-    filling::fill_from(reading::row_of(&t, 57, cell), by as usize, count, out);
+    fill_long(cell, by, count, out);
 }
 
 // A whole midamble of a cell's row, shifted: as many elements as a midamble of its code has chips. Public for the crates midambles and signal_card.

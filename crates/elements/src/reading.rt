@@ -1,6 +1,6 @@
 // A row out of a table, its digits, and one of its elements. What is public here is so for this crate's other files.
 ghost use mathlib.Core.Path.{_≡_};
-ghost use Prim.Native.Nat.{_<_, _≤_, _+_, _*_, _%_};
+ghost use Prim.Native.Nat.{_<_, _≤_, _+_, _*_, _/_, _%_};
 ghost use lib.ListN.{getD, take, drop, length};
 ghost use Rattle.code_text.specs.Rows.{bitAt};
 ghost use Rattle.elements.specs.Elements.{turned};
@@ -25,13 +25,20 @@ pub fn digit_at(row: &[u8], g: usize) -> u8
     (b >> (4 * (1 - g % 2))) % 16
 }
 
-// Bit p (from 0) of a row, the highest of a digit first; beyond its last digit the row repeats.
+// The digit that place p (from 0) of a row lies in, four places a digit; beyond its last digit the row repeats.
+pub fn digit_of(row: &[u8], p: usize) -> u8
+    requires { ⌜ Row (now row) ⌝ }
+    ensures { λ r. ⌜ r ≡ getD (digitsIn (now (row .entry))) (p / 4 % (2 * length (now (row .entry)))) 0 ⌝ }
+{
+    digit_at(row, p / 4 % (2 * row.len()))
+}
+
+// Bit p (from 0) of a row, the highest of a digit first.
 fn bit_in(row: &[u8], p: usize) -> u8
     requires { ⌜ Row (now row) ⌝ }
     ensures { λ r. ⌜ r ≡ bitAt (digitsIn (now (row .entry))) (p % (8 * length (now (row .entry)))) ⌝ }
 {
-    let d = digit_at(row, p / 4 % (2 * row.len()));
-    (d >> (3 - p % 4)) % 2
+    (digit_of(row, p) >> (3 - p % 4)) % 2
 }
 
 // Element i of a row as its power of j: bit 1 is +1, bit 0 is -1.

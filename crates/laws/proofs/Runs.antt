@@ -1,4 +1,4 @@
--- A run of values is written from the front, one a turn.
+-- A run of values is written from the front: one a turn, or a part at a time by somebody who was lent the rest. Cited by the proofs of every crate that fills a row.
 -- Assumes nothing.
 use mathlib.Core.Path.{_≡_, refl, sym, ap, _∙_}
 use mathlib.Core.List.{List, [], _∷_, _++_, append-assoc, append-nil}
@@ -69,16 +69,22 @@ pub run-fits : (f : ℕ → ℕ) (n : ℕ) (d : List ℕ) → n ≤ length d →
 run-fits f n d h = length-append (run f n) (drop n d) ∙ omega (arith, run-length f n, length-drop n d)
 
 -- the rest of a slice from place a on, as it is lent by `&mut out[a..]`
-pub rest-is : (a : ℕ) (out : List ℕ) → take (length out - a) (drop a out) ≡ drop a out
+abbrev pub rest : ℕ → List ℕ → List ℕ
+rest a out = take (length out - a) (drop a out)
+
+-- the slice with that rest put back, as it then is
+abbrev pub put-back : ℕ → List ℕ → List ℕ → List ℕ
+put-back a out part = take a out ++ (part ++ drop (length out - a) (drop a out))
+
+rest-is : (a : ℕ) (out : List ℕ) → rest a out ≡ drop a out
 rest-is a out = take-all (length out - a) (drop a out) (omega (arith, length-drop a out))
 
-pub rest-length : (a : ℕ) (out : List ℕ) → length (take (length out - a) (drop a out)) ≡ length out - a
+pub rest-length : (a : ℕ) (out : List ℕ) → length (rest a out) ≡ length out - a
 rest-length a out = ap length (rest-is a out) ∙ length-drop a out
 
--- behind a values that stand already, m more are written by somebody who was lent that rest, and the rest is put back
-pub run-behind : (f g : ℕ → ℕ) (a m : ℕ) (d out part : List ℕ) → out ≡ run f a ++ drop a d
-    → part ≡ run g m ++ drop m (take (length out - a) (drop a out)) → ((i : ℕ) → 1 ≤ i → i ≤ m → g i ≡ f (i + a))
-    → take a out ++ (part ++ drop (length out - a) (drop a out)) ≡ run f (a + m) ++ drop (a + m) d
+-- behind a values that stand already, m more are written by somebody who was lent the rest
+pub run-behind : (f g : ℕ → ℕ) (a m : ℕ) (d out part : List ℕ) → out ≡ run f a ++ drop a d → part ≡ run g m ++ drop m (rest a out)
+    → ((i : ℕ) → 1 ≤ i → i ≤ m → g i ≡ f (i + a)) → put-back a out part ≡ run f (a + m) ++ drop (a + m) d
 run-behind f g a m d out part e p same =
     let front : take a out ≡ run f a = ap (take a) e ∙ take-at (run f a) (drop a d) a (run-length f a) in
     let back : drop a out ≡ drop a d = ap (drop a) e ∙ drop-at (run f a) (drop a d) a (run-length f a) in

@@ -26,14 +26,8 @@ returns c =
     let none : 0 ≡ a .count = sym (c .if1 .taken) in
     run-none _ (now (a .out)) ∙ ap (λ (n : ℕ). elementsAfter (now (a .row)) (a .by) n (now (a .out))) none
 
-mul-digit-at : tie.Need-mul-digit-at Inv-loop μ-loop
-mul-digit-at c = search needs
-
-rem-digit-at : tie.Need-rem-digit-at Inv-loop μ-loop
-rem-digit-at c = search needs
-
-digit-at-requires : tie.Need-digit-at-requires Inv-loop μ-loop
-digit-at-requires c κs = mod-lt _ (omega arith)
+digit-of-requires : tie.Need-digit-of-requires Inv-loop μ-loop
+digit-of-requires c κs = search needs
 
 cast-d : tie.Need-cast-d Inv-loop μ-loop
 cast-d c = search needs
@@ -42,7 +36,7 @@ mul-four : tie.Need-mul-four Inv-loop μ-loop
 mul-four c = search needs
 
 element-copy-out-four : tie.Need-element-copy-out-four Inv-loop μ-loop
-element-copy-out-four c = digit-low _ _ _ (c .digit-at .ensures)
+element-copy-out-four c = digit-low _ _ _ (c .digit-of .ensures)
 
 loop-holds : tie.Need-loop-holds Inv-loop μ-loop
 loop-holds c = (omega arith, refl, run-none _ _)
@@ -67,7 +61,7 @@ loop-again c =
     let l = c .before .loop in
     let a = c .before .before .before .before .before .before .before .args in
     let q = c .before .before .before .before .before .before .before .pre in
-    let v = piece-power _ (q .0 .1) (now (a .powers)) _ (a .by) (l .i) (q .0 .0) (c .before .before .before .digit-at .ensures) (omega arith) in
+    let v = piece-power _ (q .0 .1) (now (a .powers)) _ (a .by) (l .i) (q .0 .0) (c .before .before .before .digit-of .ensures) (omega arith) in
     (omega arith, length-set (l .out) (l .i) _ ∙ l .inv .1, run-turn _ _ _ _ _ (omega arith) (l .inv .2) v)
 
 same-length : tie.Need-same-length Inv-loop μ-loop
@@ -87,9 +81,7 @@ fill-piece-spec =
     Inv-loop
     μ-loop
     returns
-    mul-digit-at
-    rem-digit-at
-    digit-at-requires
+    digit-of-requires
     cast-d
     mul-four
     element-copy-out-four

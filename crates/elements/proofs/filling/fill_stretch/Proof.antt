@@ -29,8 +29,8 @@ add-digit-at c = search needs
 digit-at-requires : tie.Need-digit-at-requires Inv-loop μ-loop
 digit-at-requires c κs = search needs
 
-mul-at : tie.Need-mul-at Inv-loop μ-loop
-mul-at c = search needs
+mul-start : tie.Need-mul-start Inv-loop μ-loop
+mul-start c = search needs
 
 sub-put-four : tie.Need-sub-put-four Inv-loop μ-loop
 sub-put-four c = search needs
@@ -79,7 +79,7 @@ fill-stretch-spec =
     loop-holds
     add-digit-at
     digit-at-requires
-    mul-at
+    mul-start
     sub-put-four
     part-put-four-start
     part-put-four-end

@@ -17,11 +17,11 @@ use Rattle.elements.proofs.filling.put_four.Tie as tie
 
 module _ (powers : List (List ℕ)) (d : ℕ) (out : List ℕ) (p : powers ≡ foursOf 16) (h : d < 16) (room : 4 ≤ length out) where
   abbrev power : ℕ → ℕ
-  power e = getD (getD powers d []) e 0
+  power k = getD (getD powers d []) k 0
 
-  -- the store of the digit's element e, counted from 0, behind those before it
-  next : (e : ℕ) (l : List ℕ) → e < 4 → l ≡ run (λ (k : ℕ). powerIn d k) e ++ drop e out → set l e (power e) ≡ run (λ (k : ℕ). powerIn d k) (e + 1) ++ drop (e + 1) out
-  next e l low so-far = run-turn (λ (k : ℕ). powerIn d k) e (power e) out l (omega (arith, room)) so-far (power-at powers d e p h low)
+  -- the store at place k, behind those before it
+  next : (k : ℕ) (l : List ℕ) → k < 4 → l ≡ run (λ (e : ℕ). powerIn d e) k ++ drop k out → set l k (power k) ≡ run (λ (e : ℕ). powerIn d e) (k + 1) ++ drop (k + 1) out
+  next k l low so-far = run-turn (λ (e : ℕ). powerIn d e) k (power k) out l (omega (arith, room)) so-far (power-at powers d k p h low)
 
   four-put : set (set (set (set out 0 (power 0)) 1 (power 1)) 2 (power 2)) 3 (power 3) ≡ fourOf d ++ drop 4 out
   unfolding fourOf

@@ -20,14 +20,8 @@ bit-read row p d good e =
     ap (λ (k : ℕ). k / 2 ^ (3 - p % 4) % 2) (e ∙ ap (λ (n : ℕ). getD (digitsIn row) (p / 4 % n) 0) digits)
     ∙ sym (bit-of-digit (8 * length row) (omega arith) (omega (arith, good .some)) (digitsIn row) p)
 
-mul-digit-at : tie.Need-mul-digit-at
-mul-digit-at c = search needs
-
-rem-digit-at : tie.Need-rem-digit-at
-rem-digit-at c = search needs
-
-digit-at-requires : tie.Need-digit-at-requires
-digit-at-requires c κs = mod-lt _ (omega arith)
+digit-of-requires : tie.Need-digit-of-requires
+digit-of-requires c κs = search needs
 
 sub-result : tie.Need-sub-result
 sub-result c = search needs
@@ -39,9 +33,9 @@ shr-result : tie.Need-shr-result
 shr-result c = search needs
 
 returns : tie.Need-returns
-returns c = bit-read _ _ _ (c .before .before .pre) (c .digit-at .ensures)
+returns c = bit-read _ _ _ (c .before .before .pre) (c .digit-of .ensures)
 
 pub bit-in-spec : {M : Type 1} → statement M
 bit-in-spec =
     tie.close
-    (tie.spec mul-digit-at rem-digit-at digit-at-requires sub-result cast-result shr-result returns)
+    (tie.spec digit-of-requires sub-result cast-result shr-result returns)

@@ -1,22 +1,60 @@
-//! The copy of a row table: the language copies a constant array to the stack once a call that reads it. Here plain Rust
-//! copies the same bytes by one memcpy, the quickest copy that we know of, so that rather too little is taken off the
-//! library's time than too much.
+//! The copy of a row table: the language copies a constant array to the stack once a call that reads it.
+//!
+//! Plain Rust copies the same bytes by one memcpy, the quickest copy that we know of: where that is taken off the
+//! library's time, rather too little is. What the library's own copy takes is seen by a single chip, which is read out of
+//! the copied table: so much more it takes than plain Rust's, which reads the table where it lies.
 
-use crate::plain::midambles::{LONG, SHORT};
+use crate::plain::midambles::{self as plain, LONG, SHORT};
+use library::MqAnswer;
+use std::cell::Cell;
 use std::hint::black_box;
 
 pub struct TableCopy {
     pub what: &'static str,
     pub make: fn(),
+    /// What is made with it and is no part of it.
+    pub besides: fn(),
 }
 
-pub const LONG_COPY: TableCopy = TableCopy { what: "the long one", make: || copy(&LONG) };
-pub const SHORT_COPY: TableCopy = TableCopy { what: "the short one", make: || copy(&SHORT) };
+pub const LONG_COPY: TableCopy =
+    TableCopy { what: "the long one", make: || copy(&LONG_ROWS), besides: || () };
+pub const SHORT_COPY: TableCopy =
+    TableCopy { what: "the short one", make: || copy(&SHORT_ROWS), besides: || () };
+
+/// The library's own.
+pub const LONG_OWN: TableCopy = TableCopy {
+    what: "the library's long one",
+    make: || chip(1, 16, library::chip),
+    besides: || chip(1, 16, plain::chip),
+};
+pub const SHORT_OWN: TableCopy = TableCopy {
+    what: "the library's short one",
+    make: || chip(2, 6, library::chip),
+    besides: || chip(2, 6, plain::chip),
+};
+
+/// One chip: the next cell, user and chip each time, over all cells and users.
+fn chip(burst: u32, count: u32, read: fn(u32, u32, u32, u32, u32) -> MqAnswer) {
+    thread_local!(static TURN: Cell<u32> = const { Cell::new(0) });
+    let turn = TURN.get();
+    TURN.set(turn.wrapping_add(1));
+    black_box(read(turn % 128, burst, count, 1 + turn / 128 % count, 1 + 61 * (turn % 4)));
+}
+
+/// A row table at an address that 64 divides, and so its copy on the stack. Where the copy stands in its page a few
+/// bytes behind where the table does, some processors take thirty times as long, and where the stack begins changes
+/// from run to run.
+#[derive(Clone, Copy)]
+#[repr(align(64))]
+struct Rows<const N: usize>([u8; N]);
+
+static LONG_ROWS: Rows<7296> = Rows(LONG);
+static SHORT_ROWS: Rows<3072> = Rows(SHORT);
 
 #[inline(never)]
-fn copy<const N: usize>(table: &[u8; N]) {
+fn copy<const N: usize>(table: &Rows<N>) {
     let copied = *table;
-    black_box(&copied);
+    black_box(&copied.0);
 }
 
 /// The copy of the table that a burst type reads.
@@ -25,4 +63,12 @@ pub fn copy_of(burst: u32) -> &'static TableCopy {
         return &SHORT_COPY;
     }
     &LONG_COPY
+}
+
+/// The library's own copy of it.
+pub fn own_copy_of(burst: u32) -> &'static TableCopy {
+    if burst == 2 {
+        return &SHORT_OWN;
+    }
+    &LONG_OWN
 }

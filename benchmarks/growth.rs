@@ -189,7 +189,7 @@ pub fn measure() -> [[f64; 2]; 4] {
 /// Prints the table; its ratios.
 pub fn print(ns: [[f64; 2]; 4]) -> [f64; 4] {
     println!("ns of a booking inside the library, by the bookings in the book; best of {ROUNDS} rounds of {TIMES}\n");
-    table::print_head("bookings in the book");
+    table::print_head("bookings in the book", table::SIDES);
     for (bookings, ns) in BOOKINGS.iter().zip(ns) {
         table::print_line(&bookings.to_string(), ns);
     }

@@ -2,11 +2,12 @@
 //! booking's cost grows.
 //!
 //! First both sides must give the same answers and the same memory, refused calls included. Then they take turns in
-//! rounds over the same inputs, and the best round of each is kept. The run fails where they differ, and where a limit
-//! of limits.rs does not hold.
+//! rounds over the same inputs, and the best round of each is kept. Midambles by the block stand beside the library's
+//! midambles in one call, too. The run fails where both sides differ, and where a limit of limits.rs does not hold.
 //!
 //! `benchmarks/run` builds and runs this; with the word `growth` the growth alone. Standard library only.
 
+mod blocks;
 mod book;
 mod copies;
 mod dice;
@@ -21,28 +22,29 @@ mod signal_card;
 mod table;
 mod timeslots;
 
-use copies::{TableCopy, LONG_COPY, SHORT_COPY};
+use copies::{TableCopy, LONG_COPY, LONG_OWN, SHORT_COPY, SHORT_OWN};
 use limits::Limit;
 use std::process::exit;
 
 const ROUNDS: usize = 201;
 
-/// What the marks of the table mean.
+/// What the marks of the tables mean.
 fn notes(lines: &[table::Line]) {
-    let best = |copy: &TableCopy| {
-        let rounds = lines.iter().filter_map(|line| line.best_of(copy));
-        format!("{:.1} ns of {}", rounds.fold(f64::INFINITY, f64::min), copy.what)
-    };
+    let best =
+        |copy: &TableCopy| format!("{:.1} ns of {}", table::best_copy(lines, copy), copy.what);
     let (long, short) = (best(&LONG_COPY), best(&SHORT_COPY));
     println!("\n(*) less the copy of the row table: {long}, {short}, in this run; beside plain Rust that reads each digit once");
     println!("(**) for information, less the same copy: plain Rust that makes the floats of all sixteen digits at the level first");
+    let (long, short) = (best(&LONG_OWN), best(&SHORT_OWN));
+    println!("(***) less the copy that the library itself makes of the row table, one for each block: {long}, {short}, in this run, by what a single chip takes more than plain Rust's; a midamble in blocks of 64 has 8 of them (type 2: 4), beside the whole one in one call, of which nothing is taken off");
 }
 
-/// The table of all calls; whether its limits hold.
+/// The tables of all calls; whether their limits hold.
 fn calls() -> bool {
     println!(
-        "library and plain Rust give equal answers and equal memory: {} calls of midambles, {} of the signal card, {} of timeslots and beacons, {} of paging, {} of refusals' words, {} of the class book",
+        "library and plain Rust give equal answers and equal memory: {} calls of midambles, {} of blocks, {} of the signal card, {} of timeslots and beacons, {} of paging, {} of refusals' words, {} of the class book",
         midambles::compare(),
+        blocks::compare(),
         signal_card::compare(),
         timeslots::compare(),
         paging::compare(),
@@ -51,6 +53,7 @@ fn calls() -> bool {
     );
     let mut lines: Vec<table::Line> = [
         midambles::lines(),
+        blocks::lines(),
         signal_card::lines(),
         timeslots::lines(),
         paging::lines(),
@@ -60,20 +63,24 @@ fn calls() -> bool {
     .into_iter()
     .flatten()
     .collect();
+    let calls = lines.len();
+    lines.extend(blocks::cuts());
     for round in 0..ROUNDS {
         for line in &mut lines {
             line.round(round);
         }
     }
+    table::settle(&mut lines);
     println!("\nns a call over C, best of {ROUNDS} rounds; the calls of the class book on one with 120 bookings\n");
-    table::print_head("call");
-    for line in &lines {
-        line.print();
-    }
+    table::print("call", table::SIDES, &lines[..calls]);
+    println!();
+    table::print("midamble by the block (***)", ["blocks ns", "one call ns"], &lines[calls..]);
     notes(&lines);
-    let limits: [&Limit; 6] = [
+    let limits: [&Limit; 8] = [
         &limits::MIDAMBLE,
         &limits::MIDAMBLE_BY_DIGITS,
+        &limits::BLOCK_BY_DIGITS,
+        &limits::MIDAMBLE_IN_BLOCKS,
         &limits::PAIRS,
         &limits::PAIRS_BY_DIGITS,
         &limits::PAGE,
@@ -81,7 +88,7 @@ fn calls() -> bool {
     ];
     let held =
         limits.map(|limit| limit.holds(lines.iter().filter_map(|line| line.ratio_of(limit))));
-    held == [true; 6]
+    held == [true; 8]
 }
 
 /// The table of the growth; whether its limit holds.

@@ -93,7 +93,7 @@ def arguments():
         holds(f'page refuses settings of {wrong!r} by name', 'settings' in str(raised(TypeError, page, 1, 4, wrong)))
         holds(f'read_page refuses bits of {wrong!r} by name', 'bits' in str(raised(TypeError, mqarbset.read_page, 1, 4, wrong)))
     numbers = {
-        mqarbset.refusal_text: 1, mqarbset.midamble_chip: 5, mqarbset.midamble: 4, mqarbset.pair: 6, mqarbset.pairs: 5, mqarbset.parts: 5, mqarbset.beacon: 2, mqarbset.indicator: 4,
+        mqarbset.refusal_text: 1, mqarbset.midamble_chip: 5, mqarbset.midamble: 4, mqarbset.blocks: 5, mqarbset.pair: 6, mqarbset.pairs: 5, mqarbset.parts: 5, mqarbset.beacon: 2, mqarbset.indicator: 4,
         mqarbset.owner: 3, book.open: 6, book.book: 9, book.cancel: 4, book.close: 1, book.list: 1,
     }
     for call, count in numbers.items():
@@ -108,6 +108,36 @@ def arguments():
         holds(f'seat {huge} is refused with 13', raised(Refused, book.close, huge).number == 13)
         holds(f'number {huge} is refused with 10', raised(Refused, mqarbset.indicator, 1, 4, 1, huge).number == 10)
     holds('a bytearray and a memoryview are bytes', page(1, 4, bytearray(30)) == page(1, 4, memoryview(bytes(30))) == page(1, 4, bytes(30)))
+
+
+def blocks():
+    """Midambles by the block: blocks joined are the midamble however it is cut, places, and what is refused."""
+    for burst, count, user, chips in ((1, 16, 9, 512), (2, 6, 5, 256), (3, 4, 7, 512)):
+        whole = mqarbset.midamble(17, burst, count, user)
+        for length in (1, 3, 64, 100, 255, 256, 511, 512, 513, 10 ** 30):
+            cut = list(mqarbset.blocks(17, burst, count, user, length))
+            holds('blocks joined are the midamble', b''.join(cut) == whole and all(type(block) is bytes for block in cut))
+            holds('every block but the last is full', all(len(block) == length for block in cut[:-1]) and 0 < len(cut[-1]) <= length)
+        holds('a block has 64 chips where nothing is said', [len(block) for block in mqarbset.blocks(17, burst, count, user)] == [64] * (chips // 64))
+        card = mqarbset.blocks(17, burst, count, user)
+        start = card.place
+        holds('a midamble starts with nothing written', start == (17, burst, count, user, 0))
+        holds('a block of 0 takes none and keeps the place', card.take(0) == b'' and card.place == start)
+        first, second = card.take(64), card.take(100)
+        kept = card.place
+        holds('the place counts what is written', kept == start._replace(written=164))
+        holds('64 chips, then 100, then the rest', first + second + card.take(10 ** 9) == whole)
+        holds('from a kept place it goes on', b''.join(mqarbset.Blocks(kept)) == whole[164:])
+        holds('at the end each block takes none', card.take(1) == card.take(512) == b'' and list(card) == [] and card.place.written == chips)
+        beyond = mqarbset.Blocks(start._replace(written=chips + 1))
+        holds('a place above the length is refused with 23', raised(Refused, beyond.take, 0).number == raised(Refused, next, beyond).number == 23)
+        holds('and stays as it was', beyond.place.written == chips + 1)
+    for place, number in (((128, 4, 5, 0, 513), 1), ((0, 4, 5, 0, 513), 2), ((0, 1, 5, 0, 513), 3), ((0, 1, 8, 9, 513), 4), ((0, 2, 6, 6, -1), 23)):
+        holds(f'a block there is refused with {number}', raised(Refused, mqarbset.Blocks(place).take, 1).number == number)
+    holds('a start is refused at once', [raised(Refused, mqarbset.blocks, *place).number for place in ((128, 4, 5, 0), (0, 4, 5, 0), (0, 1, 5, 0), (0, 1, 8, 9))] == [1, 2, 3, 4])
+    raised(ValueError, mqarbset.blocks, 0, 1, 8, 8, 0)
+    raised(ValueError, mqarbset.blocks(0, 1, 8, 8).take, -1)
+    raised(TypeError, mqarbset.Blocks, (0, 1, 8, 8))
 
 
 def floats():
@@ -194,6 +224,6 @@ def found():
 
 
 if __name__ == '__main__':
-    for part in (arguments, users, floats, books, pickles, threads, found):
+    for part in (arguments, users, blocks, floats, books, pickles, threads, found):
         part()
     print(f'python: {tried} things tried of the module, all as it says')

@@ -24,6 +24,12 @@ static void refusal_text(void) { kept = mq_refusal_text(10, bytes, sizeof bytes)
 static void refusal_string(void) { kept = (uint32_t)mq_refusal_string(10, text)[0]; }
 static void midamble_chip(void) { kept = mq_midamble_chip(127, 1, 16, 16, 512).value; }
 static void midamble(void) { kept = mq_midamble(127, 1, 16, 16, bytes, sizeof bytes).value; }
+static void block_start(void) { kept = mq_block_start(127, 1, 16, 16).refusal; }
+static void block(void)
+{
+    mq_block_place place = {127, 1, 16, 16, 3};
+    kept = mq_block(&place, bytes, sizeof bytes).value;
+}
 static void pair(void) { kept = (uint32_t)mq_pair(127, 1, 16, 16, 512, MQ_LEVEL_LIMIT).re; }
 static void pairs(void) { kept = mq_pairs(127, 1, 16, 16, MQ_LEVEL_LIMIT, floats, MQ_LONG_PAIRS).value; }
 static void parts(void) { kept = mq_parts(1, MQ_UP, 8, 16, 2).start[6]; }
@@ -46,7 +52,7 @@ static void closed(void) { kept = mq_close(&book, 3); }
 
 static const struct { const char *name; void (*call)(void); } calls[] = {
     {"mq_version", version}, {"mq_book_bytes", book_bytes}, {"mq_refusal_text", refusal_text}, {"mq_refusal_string", refusal_string},
-    {"mq_midamble_chip", midamble_chip}, {"mq_midamble", midamble}, {"mq_pair", pair}, {"mq_pairs", pairs}, {"mq_parts", parts}, {"mq_at", at},
+    {"mq_midamble_chip", midamble_chip}, {"mq_midamble", midamble}, {"mq_block_start", block_start}, {"mq_block", block}, {"mq_pair", pair}, {"mq_pairs", pairs}, {"mq_parts", parts}, {"mq_at", at},
     {"mq_beacon", beacon},
     {"mq_indicator", indicator}, {"mq_owner", owner}, {"mq_page", page}, {"mq_read_page", read_page}, {"mq_empty_book", empty_book},
     {"mq_open", opened}, {"mq_book_code", booked}, {"mq_list", listed}, {"mq_cancel", cancelled}, {"mq_close", closed},

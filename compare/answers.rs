@@ -21,6 +21,32 @@ impl MqAnswer {
     }
 }
 
+/// A place in a midamble.
+#[repr(C)]
+#[derive(Clone, Copy, Debug, Default, PartialEq, Eq)]
+pub struct MqBlockPlace {
+    pub cell: u32,
+    pub burst: u32,
+    pub count: u32,
+    pub user: u32,
+    pub written: u32,
+}
+
+#[repr(C)]
+#[derive(Clone, Copy, Debug, Default, PartialEq, Eq)]
+pub struct MqBlockStart {
+    pub refusal: u32,
+    pub place: MqBlockPlace,
+}
+
+#[repr(C)]
+#[derive(Clone, Copy, Debug, Default, PartialEq, Eq)]
+pub struct MqBlock {
+    pub refusal: u32,
+    pub written: u32,
+    pub place: MqBlockPlace,
+}
+
 /// A chip for the signal card. Two are the same where their bits are: minus zero is not zero.
 #[repr(C)]
 #[derive(Clone, Copy, Debug, Default)]

@@ -2,8 +2,10 @@
 //! and lent memory are compared whole; where they differ, the run ends with exit 1. The calls of the class book are in
 //! bookings.rs.
 
-use library::{MqAnswer, MqBeacons, MqBook, MqIndicator, MqOwner, MqPair, MqParts, MqPlace};
+use library::{MqAnswer, MqBeacons, MqBlock, MqBlockPlace, MqBlockStart, MqBook};
+use library::{MqIndicator, MqOwner, MqPair, MqParts, MqPlace};
 use second::beacons::beacon_timeslots;
+use second::blocks::{self, Place};
 use second::book::Book;
 use second::refusals::Answer;
 use second::rows::Rows;
@@ -16,7 +18,7 @@ use std::process::exit;
 #[derive(Clone, Default)]
 pub struct Tally {
     pub calls: u64,
-    pub by_refusal: [u64; 23],
+    pub by_refusal: [u64; 24],
 }
 
 impl Tally {
@@ -139,6 +141,12 @@ pub fn place(answer: Answer<Label>) -> MqPlace {
     }
 }
 
+/// A place in a midamble as it goes over C.
+fn held(place: Place) -> MqBlockPlace {
+    let Place { cell, burst_type, count, user, written } = place;
+    MqBlockPlace { cell, burst: burst_type, count, user, written }
+}
+
 fn parts(answer: &Answer<Timeslot>) -> MqParts {
     let mut wanted = MqParts { refusal: number(answer), ..MqParts::default() };
     if let Ok(slot) = answer {
@@ -191,6 +199,45 @@ impl<'a> Beside<'a> {
         expect_memory(call, &memory, &expected);
         self.count(number(&wanted));
         wanted.map(|_| expected)
+    }
+
+    // ---- midambles by the block
+
+    /// Gives the place, or the refusal.
+    pub fn block_start(&mut self, numbers: [u32; 4]) -> Answer<Place> {
+        let [cell, burst, count, user] = numbers;
+        let wanted = blocks::start(cell, burst, count, user);
+        let answer = library::block_start(cell, burst, count, user);
+        let place = wanted.map_or_else(|_| MqBlockPlace::default(), held);
+        let expected = MqBlockStart { refusal: number(&wanted), place };
+        expect(("block start", &numbers), "answer", answer, expected);
+        self.count(number(&wanted));
+        wanted
+    }
+
+    /// Gives the chips that were written, and the place that is handed back.
+    pub fn block(&mut self, place: Place, room: usize) -> (Vec<u8>, Place) {
+        let (mut memory, mut expected) = (lent(room), lent(room));
+        let (wanted, next) = blocks::block(self.rows, place, &mut expected);
+        let answer = library::block(held(place), &mut memory);
+        let Place { cell, burst_type, count, user, written } = place;
+        let call = ("block", &[cell, burst_type, count, user, written, room as u32][..]);
+        let chips = wanted.unwrap_or(0);
+        let block = MqBlock { refusal: number(&wanted), written: chips as u32, place: held(next) };
+        expect(call, "answer", answer, block);
+        expect_memory(call, &memory, &expected);
+        self.count(number(&wanted));
+        memory.truncate(chips);
+        (memory, next)
+    }
+
+    /// The joined chips of a midamble's blocks are its chips, as the library fills them in one call.
+    pub fn is_midamble(&mut self, numbers: [u32; 4], joined: &[u8]) {
+        let [cell, burst, count, user] = numbers;
+        let mut whole = lent(512);
+        let answer = library::midamble(cell, burst, count, user, &mut whole);
+        expect_memory(("blocks joined", &numbers), joined, &whole[..answer.value as usize]);
+        self.count(answer.refusal);
     }
 
     // ---- the signal card

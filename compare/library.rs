@@ -24,6 +24,8 @@ mod c {
             out: *mut u8,
             length: usize,
         ) -> MqAnswer;
+        pub fn mq_block_start(cell: u32, burst: u32, count: u32, user: u32) -> MqBlockStart;
+        pub fn mq_block_value(place: MqBlockPlace, out: *mut u8, length: usize) -> MqBlock;
         pub fn mq_pair(
             cell: u32,
             burst: u32,
@@ -117,6 +119,16 @@ pub fn chip(cell: u32, burst: u32, count: u32, user: u32, chip: u32) -> MqAnswer
 #[inline]
 pub fn midamble(cell: u32, burst: u32, count: u32, user: u32, out: &mut [u8]) -> MqAnswer {
     unsafe { c::mq_midamble(cell, burst, count, user, out.as_mut_ptr(), out.len()) }
+}
+
+#[inline]
+pub fn block_start(cell: u32, burst: u32, count: u32, user: u32) -> MqBlockStart {
+    unsafe { c::mq_block_start(cell, burst, count, user) }
+}
+
+#[inline]
+pub fn block(place: MqBlockPlace, out: &mut [u8]) -> MqBlock {
+    unsafe { c::mq_block_value(place, out.as_mut_ptr(), out.len()) }
 }
 
 #[inline]

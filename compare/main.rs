@@ -26,7 +26,7 @@ fn words() {
         let mut out = [0; 400];
         let answer = library::refusal_text(number, &mut out);
         let said = String::from_utf8_lossy(&out[..answer.value as usize]);
-        let wanted = if (1..=22).contains(&number) { condition(number) } else { "" };
+        let wanted = if (1..=23).contains(&number) { condition(number) } else { "" };
         if said != wanted {
             fail(&format!("the words of refusal {number} are {said:?}"));
         }
@@ -35,7 +35,7 @@ fn words() {
 
 /// The refusals of these that never came.
 fn missing(tally: &Tally) -> Vec<usize> {
-    (0..=22).filter(|number| tally.by_refusal[*number] == 0).collect()
+    (0..=23).filter(|number| tally.by_refusal[*number] == 0).collect()
 }
 
 fn every(rows: &Rows) {

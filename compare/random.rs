@@ -6,6 +6,7 @@ use crate::beside::{direction_number, Beside, Tally};
 use crate::bookings::numbers_of;
 use crate::damage;
 use library::MqBook;
+use second::blocks::Place;
 use second::book::Record;
 use second::calls::{self, Call};
 use second::dice::Dice;
@@ -139,6 +140,7 @@ impl Lesson<'_> {
                 let room = self.around(if numbers[1] == 2 { 256 } else { 512 });
                 let _ = self.both.midamble(numbers, room);
             }
+            "block" => self.block(call.numbers()),
             "pair" => self.both.pair(call.numbers()),
             "pairs" => {
                 let numbers: [u32; 5] = call.numbers();
@@ -163,6 +165,22 @@ impl Lesson<'_> {
             "owner" => self.both.owner(call.numbers()),
             "page" | "read" => self.page_or_read(call),
             _ => {}
+        }
+    }
+
+    /// The block as the lesson asks for it; then block after block behind it, of lengths around what is left.
+    fn block(&mut self, [cell, burst_type, count, user, written, length]: [u32; 6]) {
+        let mut place = Place { cell, burst_type, count, user, written };
+        let mut room = length.min(600) as usize;
+        loop {
+            let (chips, next) = self.both.block(place, room);
+            if chips.is_empty() && self.dice.one_in(3) {
+                return;
+            }
+            place = next;
+            let end: u32 = if burst_type == 2 { 256 } else { 512 };
+            let left = end.saturating_sub(place.written) as usize;
+            room = if self.dice.one_in(2) { self.around(left.max(1)) } else { self.dice.place(80) };
         }
     }
 

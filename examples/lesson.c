@@ -1,4 +1,4 @@
-/* A lesson over the C interface: a midamble, its chips for the signal card, the parts of a timeslot, the class book and what is kept of it, and refusals with their words.
+/* A lesson over the C interface: a midamble, whole and by the block, its chips for the signal card, the parts of a timeslot, the class book and what is kept of it, and refusals with their words.
  *   cc -std=c99 -Iinclude examples/lesson.c target/staticlib/libmqarbset.a -o lesson */
 #include <mqarbset.h>
 #include <stdio.h>
@@ -29,6 +29,29 @@ static void midamble(void)
     printf("user 7 of 4, in a wide harbour: %u chips\n", (unsigned)answer.value);
     answer = mq_midamble(0, 1, 4, 2, chips, sizeof chips);
     refused("user 2 of 4", answer.refusal);
+}
+
+/* The card asks for 64 chips, then for 100, then for whatever it has room for. */
+static void blocks(void)
+{
+    static const size_t asked[] = {64, 100, 0, 512, 64};
+    unsigned char chips[MQ_LONG_MIDAMBLE];
+    mq_block_start_answer start = mq_block_start(0, 1, 8, 8);
+    mq_block_place place = start.place;
+    size_t i;
+    if (start.refusal != 0) {
+        refused("blocks", start.refusal);
+        return;
+    }
+    printf("user 8 of 8 in blocks:");
+    for (i = 0; i < sizeof asked / sizeof asked[0]; i++) {
+        mq_answer answer = mq_block(&place, chips, asked[i]);
+        printf(" %u of %u", (unsigned)answer.value, (unsigned)asked[i]);
+    }
+    printf("; written %u\n", (unsigned)place.written);
+    place.written++;
+    refused("place 513", mq_block(&place, chips, sizeof chips).refusal);
+    printf("the place is handed back: %u\n", (unsigned)place.written);
 }
 
 static void signal_card(void)
@@ -172,6 +195,7 @@ static void class_book(void)
 int main(void)
 {
     midamble();
+    blocks();
     signal_card();
     timeslot();
     paging();

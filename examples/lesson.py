@@ -1,4 +1,4 @@
-"""A lesson over the Python module: a midamble, its chips for the signal card, the parts of a timeslot, the class book, and refusals with their words.
+"""A lesson over the Python module: a midamble, whole and by the block, its chips for the signal card, the parts of a timeslot, the class book, and refusals with their words.
 
     PYTHONPATH=python python3 examples/lesson.py      after examples/run, which builds the library
 """
@@ -44,6 +44,13 @@ def questions():
     tried('user 7 of 4, in a wide harbour, the first chips', lambda: list(mqarbset.midamble(0, 1, 4, 7)[:8]))
     tried('user 2 of 4', mqarbset.midamble, 0, 1, 4, 2)
     tried('chip 1', mqarbset.midamble_chip, 0, 1, 8, 8, 1)
+
+    tried('the midamble in blocks of 200 chips', lambda: [len(block) for block in mqarbset.blocks(0, 1, 8, 8, length=200)])
+    card = mqarbset.blocks(0, 1, 8, 8)
+    tried('64 chips, then 100, then what is left', lambda: [len(card.take(length)) for length in (64, 100, 512)])
+    tried('the place behind them', lambda: card.place)
+    tried('a block behind the end', card.take, 64)
+    tried('a place that no midamble has', mqarbset.Blocks(card.place._replace(written=513)).take, 64)
 
     tried('chip 4 for the signal card at level 1000', mqarbset.pair, 0, 1, 8, 8, 4, 1000)
     tried('the first four chips at level 1000', lambda: mqarbset.pairs(0, 1, 8, 8, 1000)[:8])

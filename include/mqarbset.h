@@ -1,4 +1,4 @@
-/* mqarbset: midambles, chips for the signal card, timeslot parts, beacon timeslots, paging bits and the class book of the 3.84 Mcps option of
+/* mqarbset: midambles, whole and by the block, chips for the signal card, timeslot parts, beacon timeslots, paging bits and the class book of the 3.84 Mcps option of
  * 3GPP TS 25.221.
  *
  * Every call here is proved against its definition (crates/mqarbset): for all numbers, all bytes and all lengths of lent memory it answers as
@@ -6,7 +6,7 @@
  * were. The few lines of C in this header, the functions marked `static inline`, are not part of the proof.
  *
  * Numbers are uint32_t, and any value may be handed in. A refusal is one of enum mq_refusal; 0 is none. If several apply, the lowest is given,
- * and every other number of the answer is 0.
+ * and every other number of the answer is 0, but for a place in a midamble, which is handed back as it was.
  * Lent memory is a pointer and a length; it may be longer than needed (only the first places are read or written) and must not overlap other
  * lent memory that is written. The pointer may be NULL where the length is 0.
  *
@@ -38,9 +38,9 @@ extern "C" {
 /* ---- version ---------------------------------------------------------------------------------------------------------------------------- */
 
 #define MQ_VERSION_MAJOR 0
-#define MQ_VERSION_MINOR 5
+#define MQ_VERSION_MINOR 6
 #define MQ_VERSION_PATCH 0
-#define MQ_VERSION 500          /* major times 10000, minor times 100, patch */
+#define MQ_VERSION 600          /* major times 10000, minor times 100, patch */
 #define MQ_ABI 1                /* libmqarbset.so.MQ_ABI; it changes when the book's size or a call that is there does; a new call alone does not move it */
 
 /* The library that runs, beside the header that a program was compiled with: MQ_VERSION there, and the bytes of a book there. A program that is
@@ -95,7 +95,7 @@ enum mq_reading {
 
 /* ---- refusals --------------------------------------------------------------------------------------------------------------------------- */
 
-/* Each with its words, document 01's but for 3, 4, 16 and 22, as mq_refusal_text gives them; what this interface adds stands behind a bar. */
+/* Each with its words, document 01's but for 3, 4, 16, 22 and 23, as mq_refusal_text gives them; what this interface adds stands behind a bar. */
 enum mq_refusal {
     MQ_REFUSED_NONE = 0,
     MQ_REFUSED_CELL = 1,        /* cell parameter above 127 */
@@ -122,7 +122,8 @@ enum mq_refusal {
     MQ_REFUSED_FULL = 19,       /* seat holds 40 */
     MQ_REFUSED_ROOM = 20,       /* common room used up */
     MQ_REFUSED_NONE_SUCH = 21,  /* no such booking */
-    MQ_REFUSED_LEVEL = 22       /* level not 1 to 2047 */
+    MQ_REFUSED_LEVEL = 22,      /* level not 1 to 2047 */
+    MQ_REFUSED_PLACE = 23       /* place above the midamble length */
 };
 
 /* A number as an answer: the refusal, or 0; and the value. */
@@ -160,6 +161,57 @@ MQ_MUST_USE mq_answer mq_midamble_chip(uint32_t cell, uint32_t burst, uint32_t c
  *   out      at least 512 bytes, or 256 for type 2; further bytes stay as they were
  * Value: how many bytes were written, 512 or 256. Refusals: 1, 2, 3, 4, 11. Stack: 9 KB. */
 MQ_MUST_USE mq_answer mq_midamble(uint32_t cell, uint32_t burst, uint32_t count, uint32_t user, unsigned char *out, size_t length);
+
+/* ---- midambles by the block -------------------------------------------------------------------------------------------------------------- */
+
+/* A place in a midamble, which the caller holds: which midamble it is, and how many of its chips are written already. mq_block_start makes it,
+ * and each mq_block moves it on. It is plain numbers: it may be copied and kept, and written by hand to go on anywhere else. Any numbers may be
+ * handed in; a place that is none is refused. */
+typedef struct mq_block_place {
+    uint32_t cell;
+    uint32_t burst;
+    uint32_t count;
+    uint32_t user;
+    uint32_t written;           /* 0 to MQ_LONG_MIDAMBLE, or MQ_SHORT_MIDAMBLE for type 2: the end */
+} mq_block_place;
+
+/* Where a midamble starts; refused, every number of the place is 0. */
+typedef struct mq_block_start_answer {
+    uint32_t refusal;
+    mq_block_place place;
+} mq_block_start_answer;
+
+/* How many chips were written into a block, and the place behind them; refused, 0 and the place that was handed in. */
+typedef struct mq_block_answer {
+    uint32_t refusal;
+    uint32_t written;
+    mq_block_place place;
+} mq_block_answer;
+
+/* The place before the first chip of a user's midamble; the numbers as for mq_midamble_chip. Refusals: 1, 2, 3, 4. Stack: 1 KB. */
+MQ_MUST_USE mq_block_start_answer mq_block_start(uint32_t cell, uint32_t burst, uint32_t count, uint32_t user);
+
+/* The call by value, as the library has it; a C program rather uses the one below, which says how much stack it takes. */
+MQ_MUST_USE mq_block_answer mq_block_value(mq_block_place place, unsigned char *out, size_t length);
+
+/* The next chips of a midamble, a byte each, as many as block and midamble have left.
+ *   place    the caller's place, moved behind the chips that are written unless the call is refused; a NULL one is refused with 1
+ *   out      a block of any length; of 0 bytes it takes none and the place stays. Bytes behind the chips stay as they were
+ * Value: how many chips were written; 0 in every block once the midamble is at its end. However a midamble is cut into blocks, their chips
+ * joined are those of mq_midamble. Refusals: 1, 2, 3, 4, 23. Stack: 9 KB. */
+MQ_MUST_USE static inline mq_answer mq_block(mq_block_place *place, unsigned char *out, size_t length)
+{
+    mq_block_place none;
+    mq_block_answer block;
+    mq_answer answer;
+    memset(&none, 255, sizeof none);
+    block = mq_block_value(place != NULL ? *place : none, out, length);
+    if (place != NULL)
+        *place = block.place;
+    answer.refusal = block.refusal;
+    answer.value = block.written;
+    return answer;
+}
 
 /* ---- chips for the signal card ---------------------------------------------------------------------------------------------------------- */
 

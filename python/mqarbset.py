@@ -1,5 +1,5 @@
-"""mqarbset for Python: midambles, chips for the signal card, timeslot parts, beacon timeslots, paging
-bits and the class book of the 3.84 Mcps option of 3GPP TS 25.221.
+"""mqarbset for Python: midambles, whole and by the block, chips for the signal card, timeslot parts, beacon
+timeslots, paging bits and the class book of the 3.84 Mcps option of 3GPP TS 25.221.
 
 Over the C interface (include/mqarbset.h), with ctypes of the standard library only. A call that is
 refused raises Refused, which has the refusal's number and words; the book is then as it was. Whole
@@ -20,10 +20,10 @@ import threading
 from typing import Dict, List, NamedTuple, Optional, Tuple
 
 __all__ = [
-    'UP', 'DOWN', 'OFF', 'ON', 'TORN', 'Part', 'Span', 'Parts', 'Place', 'Indicator', 'Booking', 'Book', 'Refused',
-    'refusal_text', 'midamble_chip', 'midamble', 'pair', 'pairs', 'parts', 'at', 'beacon', 'indicator', 'owner', 'page', 'read_page',
+    'UP', 'DOWN', 'OFF', 'ON', 'TORN', 'Part', 'Span', 'Parts', 'Place', 'Indicator', 'Booking', 'Book', 'Blocks', 'BlockPlace',
+    'Refused', 'refusal_text', 'midamble_chip', 'midamble', 'blocks', 'pair', 'pairs', 'parts', 'at', 'beacon', 'indicator', 'owner', 'page', 'read_page',
 ]
-__version__ = '0.5.0'
+__version__ = '0.6.0'
 
 UP, DOWN = 0, 1
 OFF, ON, TORN = 0, 1, 2
@@ -80,6 +80,15 @@ class Place(NamedTuple):
     number: int
 
 
+class BlockPlace(NamedTuple):
+    """A place in a midamble: which midamble it is, and how many of its chips are written already."""
+    cell: int
+    burst: int
+    count: int
+    user: int
+    written: int
+
+
 class Indicator(NamedTuple):
     """Where an indicator sits: its frame, its number q there, and `length` carrying bits from `first`
     and from `second`; all count from 0."""
@@ -115,6 +124,9 @@ def _numbers(name, *names):
 _Book = _struct('_Book', ('inside', ctypes.c_ubyte * _BOOK_BYTES))
 _BookAnswer = _struct('_BookAnswer', ('refusal', ctypes.c_uint32), ('book', _Book))
 _Answer = _numbers('_Answer', 'refusal', 'value')
+_BlockPlace = _numbers('_BlockPlace', *BlockPlace._fields)
+_BlockStart = _struct('_BlockStart', ('refusal', ctypes.c_uint32), ('place', _BlockPlace))
+_Block = _struct('_Block', ('refusal', ctypes.c_uint32), ('written', ctypes.c_uint32), ('place', _BlockPlace))
 _PairAnswer = _struct('_PairAnswer', ('refusal', ctypes.c_uint32), ('re', ctypes.c_float), ('im', ctypes.c_float))
 _PartsAnswer = _struct('_PartsAnswer', ('refusal', ctypes.c_uint32), ('start', ctypes.c_uint32 * 7),
                        ('length', ctypes.c_uint32 * 7), ('bits', ctypes.c_uint32 * 2))
@@ -124,13 +136,15 @@ _Indicator = _numbers('_Indicator', 'refusal', 'frame', 'q', 'first', 'second', 
 _Owner = _numbers('_Owner', 'refusal', 'reserved', 'q')
 
 # What each function takes and gives: u a number, m lent memory (a pointer and its length), f a lent row of floats
-# (likewise, its length in floats), b a book.
+# (likewise, its length in floats), b a book, p a place in a midamble.
 _CALLS = {
     'mq_version': ('', ctypes.c_uint32),
     'mq_book_bytes': ('', ctypes.c_uint32),
     'mq_refusal_text': ('um', _Answer),
     'mq_midamble_chip': ('uuuuu', _Answer),
     'mq_midamble': ('uuuum', _Answer),
+    'mq_block_start': ('uuuu', _BlockStart),
+    'mq_block_value': ('pm', _Block),
     'mq_pair': ('uuuuuu', _PairAnswer),
     'mq_pairs': ('uuuuuf', _Answer),
     'mq_parts': ('uuuuu', _PartsAnswer),
@@ -148,7 +162,7 @@ _CALLS = {
     'mq_list_bytes': ('bum', _Answer),
 }
 _TYPES = {'u': [ctypes.c_uint32], 'm': [ctypes.c_char_p, ctypes.c_size_t],
-          'f': [ctypes.POINTER(ctypes.c_float), ctypes.c_size_t], 'b': [_Book]}
+          'f': [ctypes.POINTER(ctypes.c_float), ctypes.c_size_t], 'b': [_Book], 'p': [_BlockPlace]}
 
 
 def _path() -> str:
@@ -202,6 +216,30 @@ def _number(name, value):
     return n if 0 <= n <= _LARGEST else _LARGEST
 
 
+def _length(value):
+    """How many bytes a block has."""
+    try:
+        n = operator.index(value)
+    except TypeError:
+        raise TypeError(f'length must be a whole number, not {type(value).__name__}') from None
+    if n < 0:
+        raise ValueError('length must not be negative')
+    return n
+
+
+def _some(value):
+    """How many bytes each of a row of blocks has."""
+    n = _length(value)
+    if n == 0:
+        raise ValueError('length must be at least 1: blocks of 0 bytes never end')
+    return n
+
+
+def _place(held):
+    """A place as the library holds it."""
+    return BlockPlace(*(getattr(held, name) for name in BlockPlace._fields))
+
+
 def _bytes(name, value):
     """Bytes to read."""
     try:
@@ -211,9 +249,9 @@ def _bytes(name, value):
     return _Lent(held, len(held))
 
 
-def _call(call, *book, **numbers):
-    """The answer's fields, or Refused. A book goes first; what is named is a number, or lent memory."""
-    passed = list(book)
+def _call(call, *first, **numbers):
+    """The answer's fields, or Refused. A book or a place goes first; what is named is a number, or lent memory."""
+    passed = list(first)
     for name, value in numbers.items():
         passed += value.passed if isinstance(value, _Lent) else [_number(name, value)]
     answer = getattr(_library, call)(*passed)
@@ -253,6 +291,54 @@ def midamble(cell: int, burst: int, count: int, user: int) -> bytes:
     1, 3, 5, 7. Refused with 1, 2, 3, 4.
     """
     return _written('mq_midamble', _LONG_MIDAMBLE, cell=cell, burst=burst, count=count, user=user)
+
+
+class Blocks:
+    """A midamble block by block, from a place on: an iterator of bytes, a byte a chip. Each block has `length`
+    chips, the last one those that are left; `take` gives a block of another length in between.
+
+    However a midamble is cut, its blocks joined are midamble's bytes. `place` is where the next block begins: a
+    Blocks made with it goes on from there. A place whose numbers are none is refused with 1, 2, 3, 4, 23 when a
+    block is asked for, and stays as it was. length is at least 1.
+    """
+
+    def __init__(self, place: BlockPlace, length: int = 64) -> None:
+        self._length = _some(length)
+        self._place = _BlockPlace(*(_number(name, value) for name, value in BlockPlace(*place)._asdict().items()))
+
+    @property
+    def place(self) -> BlockPlace:
+        return _place(self._place)
+
+    def take(self, length: int) -> bytes:
+        """The next block: length chips, or as many as are left; none at the end, and none of 0."""
+        room = min(_length(length), _LONG_MIDAMBLE)
+        out = ctypes.create_string_buffer(room)
+        answer = _call('mq_block_value', self._place, out=_Lent(out, room))
+        self._place = answer.place
+        return out.raw[:answer.written]
+
+    def __iter__(self) -> 'Blocks':
+        return self
+
+    def __next__(self) -> bytes:
+        block = self.take(self._length)
+        if not block:
+            raise StopIteration
+        return block
+
+    def __repr__(self) -> str:
+        return f'Blocks({self.place}, length={self._length})'
+
+
+def blocks(cell: int, burst: int, count: int, user: int, length: int = 64) -> Blocks:
+    """A user's midamble from its first chip on, in blocks of length chips: an iterator of bytes.
+
+    length at least 1; the others as for midamble. Refused with 1, 2, 3, 4.
+    """
+    length = _some(length)
+    start = _call('mq_block_start', cell=cell, burst=burst, count=count, user=user).place
+    return Blocks(_place(start), length)
 
 
 def pair(cell: int, burst: int, count: int, user: int, chip: int, level: int) -> Tuple[float, float]:

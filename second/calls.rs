@@ -10,7 +10,7 @@ pub struct Form {
 
 /// The table. Reading a line goes by its first column: after the call's own word, `up|down` stands for a direction,
 /// SETTINGS and BITS for words of the digits 0 and 1, and every other word for a number.
-pub const FORMS: [Form; 17] = [
+pub const FORMS: [Form; 18] = [
     Form { call: "open SEAT CELL CASE K LONG SHORT", reply: "ok" },
     Form { call: "book SEAT SLOT up|down TYPE FACTOR INDEX USER TFCI TPC", reply: "ok" },
     Form { call: "cancel SEAT SLOT FACTOR INDEX", reply: "ok" },
@@ -23,6 +23,11 @@ pub const FORMS: [Form; 17] = [
     Form {
         call: "midamble CELL TYPE COUNT USER",
         reply: "midamble and the chips as digits 0 to 3 with no blanks between",
+    },
+    Form {
+        call: "block CELL TYPE COUNT USER PLACE LENGTH",
+        reply: "block N and, behind a blank, the N chips as digits 0 to 3 with no blanks between; \
+                block 0 alone where there are none",
     },
     Form { call: "pair CELL TYPE COUNT USER I LEVEL", reply: "pair RE IM" },
     Form {

@@ -1,6 +1,8 @@
 //! `second every`: one lesson of every question that docs/COMPARISON.md lists, for both programs to answer. It only
-//! asks: no answer stands here. Written by an author of the library, but for the signal card's questions; these and the
-//! rest of this program by people who had not seen it.
+//! asks: no answer stands here. Written by an author of the library, but for the questions about blocks (`blocks`) and
+//! the signal card's; these and the rest of this program by people who had not seen it.
+
+mod blocks;
 
 use crate::midambles::{family, good_count, permitted, permitted_users};
 use crate::paging;
@@ -18,6 +20,7 @@ pub fn print(out: &mut dyn Write) -> io::Result<()> {
     let put: Put = &mut |line| writeln!(out, "{line}");
     midambles(put)?;
     chips(put)?;
+    blocks::all(put)?;
     pairs_of_chips(put)?;
     pairs_of_midambles(put)?;
     timeslots(put)?;
@@ -143,20 +146,29 @@ fn pairs_of_midambles(put: Put) -> io::Result<()> {
             put(format!("pairs {cell} {user} {}", 1 + 16 * cell))?;
         }
     }
-    for (burst_type, count, user) in [(1, 16, 16), (2, 6, 6), (3, 8, 8), (1, 4, 7), (3, 4, 5)] {
-        let wrong_users = USERS.into_iter().filter(|user| !permitted(count, *user));
-        let mut questions = vec![[127, burst_type, count, user]];
-        questions.extend([128, LARGEST].map(|cell| [cell, burst_type, count, user]));
-        questions.extend([0, 4, LARGEST].map(|burst_type| [127, burst_type, count, user]));
-        questions.extend(COUNTS.map(|count| [127, burst_type, count, 1]));
-        questions.extend(wrong_users.map(|user| [127, burst_type, count, user]));
-        for [cell, burst_type, count, user] in questions {
+    for right in RIGHT_USERS {
+        for [cell, burst_type, count, user] in wrong_by_itself(right) {
             for level in LEVELS {
                 put(format!("pairs {cell} {burst_type} {count} {user} {level}"))?;
             }
         }
     }
     Ok(())
+}
+
+/// Type, count and user, all within the rules.
+const RIGHT_USERS: [[u32; 3]; 5] = [[1, 16, 16], [2, 6, 6], [3, 8, 8], [1, 4, 7], [3, 4, 5]];
+
+/// Cell, type, count and user: as they are right, and each of them wrong by itself. With the counts stands user 1, whom
+/// every count permits.
+fn wrong_by_itself([burst_type, count, user]: [u32; 3]) -> Vec<[u32; 4]> {
+    let wrong_users = USERS.into_iter().filter(|user| !permitted(count, *user));
+    let mut questions = vec![[127, burst_type, count, user]];
+    questions.extend([128, LARGEST].map(|cell| [cell, burst_type, count, user]));
+    questions.extend([0, 4, LARGEST].map(|burst_type| [127, burst_type, count, user]));
+    questions.extend(COUNTS.map(|count| [127, burst_type, count, 1]));
+    questions.extend(wrong_users.map(|user| [127, burst_type, count, user]));
+    questions
 }
 
 /// Every question about a timeslot, and every chip of those that are answered.

@@ -1,6 +1,7 @@
 //! docs/LESSONS.md: the program `bench`, a reply for each line of a lesson.
 
 use crate::beacons::{self, beacon_timeslots};
+use crate::blocks::{block, Place};
 use crate::book::{Book, Record, Settings, MOST_OF_A_SEAT};
 use crate::calls::{self, Call, FORMS};
 use crate::midambles::{one_chip, whole_midamble};
@@ -115,6 +116,7 @@ impl Bench<'_> {
             "list" => self.list(call),
             "chip" => self.chip(call),
             "midamble" => self.midamble(call),
+            "block" => self.block(call),
             "pair" => self.pair(call),
             "pairs" => self.pairs(call),
             "parts" => parts(call),
@@ -183,6 +185,18 @@ impl Bench<'_> {
         let mut lent = [0; LONGEST_MIDAMBLE];
         let written = whole_midamble(self.rows, cell, burst_type, count, user, &mut lent)?;
         Ok(format!("midamble {}", digit_words(&lent[..written])))
+    }
+
+    /// "Of more than 512 the program lends 512, which answers the same."
+    fn block(&self, call: &Call) -> Answer<String> {
+        let [cell, burst_type, count, user, written, length] = call.numbers();
+        let place = Place { cell, burst_type, count, user, written };
+        let mut lent = vec![0; LONGEST_MIDAMBLE.min(length as usize)];
+        let (answer, _) = block(self.rows, place, &mut lent);
+        Ok(match answer? {
+            0 => "block 0".to_string(),
+            written => format!("block {written} {}", digit_words(&lent[..written])),
+        })
     }
 
     fn pair(&self, call: &Call) -> Answer<String> {

@@ -2,14 +2,15 @@
 //! in it and adds to it, and the line formats of docs/LESSONS.md, without sight of the proved library.
 //!
 //! The rules stand here as naively as they stand in the documents; a module is a chapter of document 01, or what a
-//! request of document 02 adds to it (`signal_card`). The others read and answer lessons (`calls`, `lesson`), make them
-//! (`every`, `random` and what it uses, `noise`), and check the figures (`selftest`). `main.rs` is the program;
-//! `compare/` puts the same model beside the library over C.
+//! request of document 02 adds to it (`blocks`, `signal_card`). The others read and answer lessons (`calls`, `lesson`),
+//! make them (`every`, `random` and what it uses, `noise`), and check the figures (`selftest`). `main.rs` is the
+//! program; `compare/` puts the same model beside the library over C.
 //!
 //! `tools/second` builds both, once, into target/second.
 
 // ---- document 01, as document 02 mends it and adds to it
 pub mod beacons;
+pub mod blocks;
 pub mod book;
 pub mod midambles;
 pub mod paging;

@@ -154,8 +154,8 @@ pub fn shift(family: &Family, k: usize) -> usize {
     }
 }
 
-/// Refusals 1 to 4, common to one chip and a whole midamble: the call names the count, so 4 goes by it.
-fn refusals_1_to_4(cell: u32, burst_type: u32, count: u32, user: u32) -> Answer<()> {
+/// Refusals 1 to 4, common to one chip, a whole midamble and a block of one: the call names the count, so 4 goes by it.
+pub fn refusals_1_to_4(cell: u32, burst_type: u32, count: u32, user: u32) -> Answer<()> {
     refuse_if(cell > 127, 1)?;
     refuse_unknown_type(burst_type)?;
     refuse_bad_count(burst_type, count)?;

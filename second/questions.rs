@@ -1,16 +1,17 @@
 //! Random calls beside the class book's, for random lessons: each word is within the rules, but that some words of page
-//! and read are too short or too long, that a few levels of pair and pairs lie just outside, at 0 and 2048, and that
-//! some users of a midamble are not permitted under the count.
+//! and read are too short or too long, that a few levels of pair and pairs lie just outside, at 0 and 2048, that a few
+//! places of block lie above the midamble length, and that some users of a midamble are not permitted under the count.
 
 use crate::dice::Dice;
 use crate::midambles::{family, permitted_users};
 
-/// A random call of chip, midamble, pair, pairs, parts, at, beacon, indicator, page, read, owner. There is no `help` in
-/// it: the two programs need not agree on its reply.
+/// A random call of chip, midamble, block, pair, pairs, parts, at, beacon, indicator, page, read, owner. There is no
+/// `help` in it: the two programs need not agree on its reply.
 pub fn question(dice: &mut Dice) -> String {
     let ask = dice.pick_by_weight(&[
         (2, chip as fn(&mut Dice) -> String),
         (1, midamble),
+        (3, block),
         (2, pair),
         (1, pairs),
         (2, parts),
@@ -43,6 +44,38 @@ fn chip(dice: &mut Dice) -> String {
 
 fn midamble(dice: &mut Dice) -> String {
     format!("midamble {}", user_of_a_cell(dice).0)
+}
+
+/// How many chips are written already: mostly any number within the rules, often one at the start or around the end,
+/// now and then any at all.
+fn place(dice: &mut Dice, length: u32) -> u32 {
+    match dice.below(20) {
+        0 => dice.number(),
+        1..=5 => dice.pick(&[0, 0, 1, 63, 64, 65, 100, 164]),
+        6..=9 => dice.pick(&[length - 64, length - 2, length - 1, length, length + 1]),
+        _ => dice.between(0, length),
+    }
+}
+
+/// How many bytes are lent where so many chips are left: none, what the card asks for, around a whole midamble, around
+/// what is left, few, or any number at all.
+fn length_of_block(dice: &mut Dice, left: u32) -> u32 {
+    match dice.below(12) {
+        0 => 0,
+        1 | 2 => dice.pick(&[64, 100]),
+        3 => dice.pick(&[255, 256, 257, 511, 512, 513]),
+        4..=6 => dice.pick(&[left.saturating_sub(1), left, left + 1]),
+        7 => dice.number(),
+        8 => dice.between(0, 600),
+        _ => dice.between(1, 20),
+    }
+}
+
+fn block(dice: &mut Dice) -> String {
+    let (user, length) = user_of_a_cell(dice);
+    let place = place(dice, length);
+    let left = length.saturating_sub(place);
+    format!("block {user} {place} {}", length_of_block(dice, left))
 }
 
 /// A level: mostly any within the rules, now and then the lowest or the highest, or one just outside.

@@ -4,9 +4,9 @@ use crate::dice::Dice;
 use crate::lesson::LONGEST_LINE;
 
 /// Numbers on both sides of a rule's edge, and of the edges of 8, 16, 31 and 32 bits.
-const EDGES: [u32; 37] = [
+const EDGES: [u32; 38] = [
     0, 1, 2, 3, 4, 5, 6, 7, 8, 9, 10, 11, 13, 14, 15, 16, 17, 32, 39, 40, 41, 64, 127, 128, 255,
-    256, 512, 513, 2047, 2048, 2559, 2560, 65535, 65536, 2147483647, 2147483648, 4294967294,
+    256, 257, 512, 513, 2047, 2048, 2559, 2560, 65535, 65536, 2147483647, 2147483648, 4294967294,
 ];
 
 /// Words that stand where a number is expected and are none.
@@ -33,7 +33,7 @@ const NO_NUMBERS: [&str; 16] = [
 const NO_DIRECTIONS: [&str; 7] = ["Up", "DOWN", "left", "u", "downs", "1", "up|down"];
 
 /// Lines that begin with no call's word.
-const NO_CALLS: [&str; 16] = [
+const NO_CALLS: [&str; 18] = [
     "opens 3 0 1 0 0 0",
     "Open 3 0 1 0 0 0",
     "BOOK 3 2 down 1 16 3 4 0 0",
@@ -50,6 +50,8 @@ const NO_CALLS: [&str; 16] = [
     "clos 3",
     "pai 0 1 16 8 1 5",
     "Pairs 0 1 16 8 5",
+    "blocks 0 1 16 8 0 64",
+    "Block 0 1 16 8 0 64",
 ];
 
 /// A number in place of the right one.

@@ -1,6 +1,7 @@
 //! Document 01, "Figures to check", and the few facts that the chapters state beside their rules; and of document 02
-//! the burst types, the signal card, and (`users`) the users that a count permits.
+//! the burst types, the signal card, (`users`) the users that a count permits, and (`blocks`) midambles by the block.
 
+mod blocks;
 mod users;
 
 use crate::beacons::{beacon_timeslots, words};
@@ -45,6 +46,7 @@ fn figures(rows: &Rows) -> Vec<Figure> {
     figures.extend(row_figures(rows));
     figures.extend(midamble_figures(rows));
     figures.extend(users::figures(rows));
+    figures.extend(blocks::figures(rows));
     figures.extend(pair_figures(rows));
     figures.extend(zero_figures(rows));
     figures.extend(level_figures(rows));

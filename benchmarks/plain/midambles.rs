@@ -105,7 +105,7 @@ pub fn midamble(cell: u32, burst: u32, count: u32, user: u32, out: &mut [u8]) ->
 }
 
 /// Fills as fill_from does, but reads each digit once.
-fn fill_by_digits(t: &[u8], w: u32, n: u32, by: u32, count: usize, out: &mut [u8]) {
+pub fn fill_by_digits(t: &[u8], w: u32, n: u32, by: u32, count: usize, out: &mut [u8]) {
     digits::fill(row_of(t, w, n), by, 1, &mut out[..count], |d, skipped, place| {
         place.copy_from_slice(&POWERS[d][skipped..skipped + place.len()]);
     });
@@ -139,11 +139,23 @@ fn whole(
     if out.len() < c.length as usize {
         return MqAnswer::refusing(11);
     }
-    let by = shift(&c, user);
-    if burst == 2 {
-        fill(&SHORT, 24, cell, by, 256, out);
-    } else {
-        fill(&LONG, 57, cell, by, 512, out);
-    }
+    fill_row(cell, burst, shift(&c, user), c.length as usize, out, fill);
     MqAnswer::giving(c.length)
+}
+
+/// Fills from the cell's row of the table that a burst type reads.
+#[inline(always)]
+pub fn fill_row(
+    cell: u32,
+    burst: u32,
+    by: u32,
+    count: usize,
+    out: &mut [u8],
+    fill: impl Fn(&[u8], u32, u32, u32, usize, &mut [u8]),
+) {
+    if burst == 2 {
+        fill(&SHORT, 24, cell, by, count, out);
+    } else {
+        fill(&LONG, 57, cell, by, count, out);
+    }
 }

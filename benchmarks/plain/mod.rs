@@ -1,6 +1,7 @@
 //! The calls in plain Rust, by chapter: what a Rust programmer would write who knows document 01 and checks the same
 //! refusals. No call here is inlined into the timing loops: the library's cannot be either.
 
+pub mod blocks;
 pub mod book;
 pub mod digits;
 pub mod midambles;

@@ -2,7 +2,7 @@
 
 use library::MqAnswer;
 
-const WORDS: [&str; 23] = [
+const WORDS: [&str; 24] = [
     "",
     "cell parameter above 127",
     "burst type not 1, 2 or 3",
@@ -26,6 +26,7 @@ const WORDS: [&str; 23] = [
     "common room used up",
     "no such booking",
     "level not 1 to 2047",
+    "place above the midamble length",
 ];
 
 #[inline(never)]

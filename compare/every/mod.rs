@@ -1,5 +1,6 @@
 //! Every question of docs/COMPARISON.md, over C.
 
+mod blocks;
 mod book;
 mod midambles;
 mod paging;
@@ -15,6 +16,7 @@ const LARGEST: u32 = u32::MAX;
 pub fn run(rows: &Rows) -> Tally {
     let both = &mut Beside::new(rows);
     midambles::run(both);
+    blocks::run(both);
     signal_card::run(both);
     timeslots::run(both);
     paging::run(both);

@@ -27,9 +27,9 @@ pub struct Turn {
 fn numbered(call: u32, v: Values) -> Reply {
     match call {
         5 => midamble_calls::chip(v),
-        10 => timeslot_calls::at_chip(v),
-        11 => beacon_calls::beacon(v),
-        12 => paging_calls::indicator(v),
+        11 => timeslot_calls::at_chip(v),
+        12 => beacon_calls::beacon(v),
+        13 => paging_calls::indicator(v),
         _ => paging_calls::owner(v),
     }
 }
@@ -39,12 +39,13 @@ fn asking(out: &mut [u8; 4096], at: usize, call: u32, v: Values, row: &[u8], b: 
     match call {
         4 => book_calls::list(out, at, v, b),
         6 => midamble_calls::midamble(out, at, v),
-        7 => card_calls::pair(out, at, v),
-        8 => card_calls::pairs(out, at, v),
-        9 => timeslot_calls::parts(out, at, v),
-        13 => paging_calls::row(out, at, false, v, row),
-        14 => paging_calls::row(out, at, true, v, row),
-        16 => help::help(out, at),
+        7 => midamble_calls::block(out, at, v),
+        8 => card_calls::pair(out, at, v),
+        9 => card_calls::pairs(out, at, v),
+        10 => timeslot_calls::parts(out, at, v),
+        14 => paging_calls::row(out, at, false, v, row),
+        15 => paging_calls::row(out, at, true, v, row),
+        17 => help::help(out, at),
         _ => replies::said(out, at, numbered(call, v)),
     }
 }
@@ -86,7 +87,7 @@ fn worded(
     made(out, at, call, v, &rest[from..to], b)
 }
 
-// A line by its first word, in a table of seventeen calls.
+// A line by its first word, in a table of eighteen calls.
 fn tabled(
     out: &mut [u8; 4096],
     at: usize,
@@ -98,8 +99,8 @@ fn tabled(
 ) -> Turn
     ensures { λ r. ⌜ r .book ≡ tabledBy (now (table .entry)) (now (name .entry)) (now (rest .entry)) b ⌝ }
 {
-    let found = words::look_up(name, table, 17);
-    if found.number == 17 {
+    let found = words::look_up(name, table, 18);
+    if found.number == 18 {
         let n = say::unknown(out, at, number, name);
         return Turn { at: n, book: b };
     }
@@ -118,7 +119,7 @@ fn named(out: &mut [u8; 4096], at: usize, number: u64, name: &[u8], rest: &[u8],
         number,
         name,
         rest,
-        b"open nnnnnn book nndnnnnnn cancel nnnn close n list n chip nnnnn midamble nnnn pair nnnnnn pairs nnnnn parts ndnnn at ndnnnn beacon nn indicator nnnn page nnr read nnr owner nnn help",
+        b"open nnnnnn book nndnnnnnn cancel nnnn close n list n chip nnnnn midamble nnnn block nnnnnn pair nnnnnn pairs nnnnn parts ndnnn at ndnnnn beacon nn indicator nnnn page nnr read nnr owner nnn help",
         b,
     )
 }

@@ -17,6 +17,7 @@ use Rattle.conditions.proofs.bad_beacon.Reads as bad-beacon
 use Rattle.conditions.proofs.bad_pich.Reads as bad-pich
 use Rattle.conditions.proofs.bad_frames.Reads as bad-frames
 use Rattle.conditions.proofs.bad_level.Reads as bad-level
+use Rattle.conditions.proofs.bad_place.Reads as bad-place
 
 pub is-down-asks-nothing : (κs : _) (a : _) → is-down.Pre κs a
 is-down-asks-nothing κs a = tt
@@ -113,3 +114,9 @@ bad-level-asks-nothing κs a = tt
 
 pub bad-level-unique : (κs : _) (a : _) (r r' : _) (s s' : _) → bad-level.Post κs a r s → bad-level.Post κs a r' s' → r ≡ r'
 bad-level-unique κs a r r' s s' p q = p ∙ sym q
+
+pub bad-place-asks-nothing : (κs : _) (a : _) → bad-place.Pre κs a
+bad-place-asks-nothing κs a = tt
+
+pub bad-place-unique : (κs : _) (a : _) (r r' : _) (s s' : _) → bad-place.Post κs a r s → bad-place.Post κs a r' s' → r ≡ r'
+bad-place-unique κs a r r' s s' p q = p ∙ sym q

@@ -1,4 +1,4 @@
--- Document 01, "Refusal numbers": the conditions on numbers and on lent memory, 1 to 11 and document 02's 22, one name for each. Cited by the crate tables and by the calls' tables.
+-- Document 01, "Refusal numbers": the conditions on numbers and on lent memory, 1 to 11 and document 02's 22 and 23, one name for each. Cited by the crate tables and by the calls' tables.
 -- Conditions on a seat and on the book (12 to 21) stand in the file of the same name in the crates seats and classbook. Assumes nothing.
 use mathlib.Core.Bool.{Bool, true, false, cond, not, _&&_, _||_}
 use mathlib.Core.List.{List}
@@ -96,3 +96,7 @@ tooShort needed memory = ltb (length memory) needed
 -- 22 (document 02, C-12): "The level a is a whole number from 1 to 2047 .. 22 for another level"
 unfoldable pub badLevel : ℕ → Bool
 badLevel level = ltb level 1 || ltb 2047 level
+
+-- 23 (document 02, C-15): "where the place, counted in chips already written, is above the midamble length"
+unfoldable pub badPlace : ℕ → ℕ → Bool
+badPlace chips written = ltb chips written

@@ -1,8 +1,8 @@
-// Document 01, "Refusal numbers", and document 02's 22: the conditions on numbers, in the order of their numbers; and up and down. The tables made of them: the crate tables.
+// Document 01, "Refusal numbers", and document 02's 22 and 23: the conditions on numbers, in the order of their numbers; and up and down. The tables made of them: the crate tables.
 ghost use lib.Dec.{eqb};
 ghost use mathlib.Core.Bool.{_||_};
 ghost use mathlib.Core.Path.{_≡_};
-ghost use Rattle.conditions.specs.Conditions.{isDown, badCell, badType, badCount, badUser, badBookedUser, badTimeslot, badFactor, badCode, badDownFactor, badDownType, badControl, badBeacon, badPich, badFrames, badLevel};
+ghost use Rattle.conditions.specs.Conditions.{isDown, badCell, badType, badCount, badUser, badBookedUser, badTimeslot, badFactor, badCode, badDownFactor, badDownType, badControl, badBeacon, badPich, badFrames, badLevel, badPlace};
 
 // Of a timeslot or a booking: up or down, there is no third.
 pub enum Direction {
@@ -150,4 +150,11 @@ pub fn bad_level(level: u32) -> bool
     ensures { λ r. ⌜ r ≡ badLevel level ⌝ }
 {
     (level < 1) | (level > 2047)
+}
+
+// 23: more chips are written already than a midamble of that length has.
+pub fn bad_place(length: u32, written: u32) -> bool
+    ensures { λ r. ⌜ r ≡ badPlace length written ⌝ }
+{
+    written > length
 }

@@ -11,6 +11,8 @@ use Rattle.conditions.specs.declared.Direction.{Direction}
 use Rattle.tables.specs.Tables.{userRefusals, partsRefusals, pichRefusals}
 use Rattle.tables.specs.Tables.{formRefusals, settingsRefusals}
 use Rattle.midambles.specs.Calls.{chipRefusals, chipAnswer, midambleRefusals, midambleOutcome}
+use Rattle.blocks.specs.declared.Place.{Place}
+use Rattle.blocks.specs.Calls.{startAnswer, blockRefusals, blockOutcome}
 use Rattle.signal_card.specs.Calls.{pairRefusals, pairAnswer, pairsRefusals, pairsOutcome}
 use Rattle.timeslots.specs.Calls.{atRefusals, partsAnswer, atAnswer}
 use Rattle.beacons.specs.Calls.{beaconRefusals, beaconAnswer}
@@ -42,6 +44,20 @@ module _ (cell burst count user : ℕ) where
       (answerOf (midambleOutcome cell burst count user out))
   unfolding answerOf midambleOutcome midambleRefusals userRefusals numbersOf ascending chain
   midamble-exactly out = exactly _ (midambleRefusals cell burst count user out) _ refl refl
+
+-- ---- blocks, document 02: "1 to 4 at the start, the same in a block .., and after those 23"
+
+pub block-start-exactly : (cell burst count user : ℕ)
+    → Exactly (1 ∷ 2 ∷ 3 ∷ 4 ∷ []) (userRefusals cell burst count user)
+    (startAnswer cell burst count user)
+unfolding startAnswer userRefusals numbersOf ascending chain
+block-start-exactly cell burst count user =
+    exactly _ (userRefusals cell burst count user) _ refl refl
+
+pub block-exactly : (p : Place) (out : List ℕ)
+    → Exactly (1 ∷ 2 ∷ 3 ∷ 4 ∷ 23 ∷ []) (blockRefusals p) (answerOf (blockOutcome p out))
+unfolding answerOf blockOutcome blockRefusals userRefusals numbersOf ascending chain
+block-exactly p out = exactly _ (blockRefusals p) _ refl refl
 
 -- ---- the signal card, document 02: "Refusals: 22 for another level, last in order"
 

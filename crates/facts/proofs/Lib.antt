@@ -5,6 +5,8 @@ pub mod Sequences
 pub mod Permitted
 pub mod Apart
 pub mod Shifts
+pub mod Blocks
+pub mod Cuts
 pub mod SignalCard
 pub mod Fields
 pub mod Room

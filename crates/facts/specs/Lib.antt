@@ -2,3 +2,4 @@ pub mod Orders
 pub mod Sequences
 pub mod Permitted
 pub mod Codes
+pub mod Cuts

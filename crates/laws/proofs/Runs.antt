@@ -10,6 +10,7 @@ use native.Mathlib.Omega.{arith}
 use lib.ListN.{length, set, take, drop, getD, length-append, length-drop, drop-of-length-le, List·getD-append}
 use lib.Seq.{drop-cons, set-at, append-snoc, getD-at, take-at, take-all, drop-at, drop-drop}
 use Rattle.laws.specs.Runs.{run}
+use Rattle.laws.proofs.Parts.{take-within, take-taken}
 
 pub run-length : (f : ℕ → ℕ) (n : ℕ) → length (run f n) ≡ n
 unfolding run
@@ -63,6 +64,24 @@ run-cut f a (suc m) =
     ∙ ap (λ (l : List ℕ). l ++ (f (a + m + 1) ∷ [])) (run-cut f a m)
     ∙ ap (λ (k : ℕ). (run f a ++ run (λ (i : ℕ). f (i + a)) m) ++ (f k ∷ [])) same
     ∙ append-assoc (run f a) (run (λ (i : ℕ). f (i + a)) m) (f (m + 1 + a) ∷ [])
+
+-- a part of a run: k values at the most, behind its first a
+run-front : (f : ℕ → ℕ) (n m : ℕ) → m ≤ n → take m (run f n) ≡ run f m
+run-front f n m h =
+    let all : n ≡ m + (n - m) = omega arith in
+    ap (λ (x : ℕ). take m (run f x)) all ∙ ap (take m) (run-cut f m (n - m)) ∙ take-at (run f m) (run (λ (i : ℕ). f (i + m)) (n - m)) m (run-length f m)
+
+run-after : (f : ℕ → ℕ) (n a : ℕ) → a ≤ n → drop a (run f n) ≡ run (λ (i : ℕ). f (i + a)) (n - a)
+run-after f n a h =
+    let all : n ≡ a + (n - a) = omega arith in
+    ap (λ (x : ℕ). drop a (run f x)) all ∙ ap (drop a) (run-cut f a (n - a)) ∙ drop-at (run f a) (run (λ (i : ℕ). f (i + a)) (n - a)) a (run-length f a)
+
+pub run-part : (f : ℕ → ℕ) (n a k m : ℕ) → a ≤ n → m ≡ length (take k (drop a (run f n))) → take k (drop a (run f n)) ≡ run (λ (i : ℕ). f (i + a)) m
+run-part f n a k m h e =
+    let g : ℕ → ℕ = λ i. f (i + a) in
+    let rest = run-after f n a h in
+    let few : m ≤ n - a = omega (arith, e, take-within k (drop a (run f n)), length-drop a (run f n), run-length f n) in
+    take-taken k (drop a (run f n)) ∙ ap (λ (x : ℕ). take x (drop a (run f n))) (sym e) ∙ ap (take m) rest ∙ run-front g (n - a) m few
 
 -- how long what a run was written into is: as long as it was
 pub run-fits : (f : ℕ → ℕ) (n : ℕ) (d : List ℕ) → n ≤ length d → length (run f n ++ drop n d) ≡ length d

@@ -1,11 +1,15 @@
 -- docs/LESSONS.md, its table: the reply to a call that is answered in numbers, as the line of the table in `replies::said` and the numbers in it;
--- and what the calls for the signal card answer, before it is written as a line. Cited by the promises here. Assumes nothing.
+-- and what blocks and the calls for the signal card answer, before it is written as a line. Cited by the promises here. Assumes nothing.
+use mathlib.Core.Bool.{cond}
 use mathlib.Core.List.{List}
 use Prim.Native.Nat.{ℕ}
+use lib.Dec.{ltb}
 use lib.ListN.{length, getD}
 use lib.Ieee.{Float}
 use Rattle.refusals.specs.Refusals.{Answer, Outcome, refused, answered}
 use Rattle.midambles.specs.Calls.{chipAnswer}
+use Rattle.blocks.specs.declared.Place.{Place}
+use Rattle.blocks.specs.Calls.{blockOutcome}
 use Rattle.signal_card.specs.Calls.{pairAnswer, pairsOutcome}
 use Rattle.beacons.specs.Calls.{beaconAnswer}
 use Rattle.paging.specs.Paging.{Owner, reserved, owned}
@@ -63,6 +67,14 @@ symbolReply s = atReply (saidAt (chip.Symbol s))
 -- what the words of a line ask for: "`chip CELL TYPE COUNT USER I`"
 unfoldable pub chipAsked : Values → Reply
 chipAsked v = chipReply (chipAnswer (v .first) (v .second) (v .third) (v .fourth) (v .fifth))
+
+-- "LENGTH is how many bytes are lent, any number (of more than 512 the program lends 512 ..)": the room for a midamble's chips
+unfoldable pub bytesLent : ℕ → ℕ → ℕ
+bytesLent n room = cond (ltb room n) room n
+
+-- "`block CELL TYPE COUNT USER PLACE LENGTH`", before it is written as a line, into the bytes that are lent
+unfoldable pub blockAsked : Values → List ℕ → Outcome ℕ (Place × List ℕ)
+blockAsked v out = blockOutcome (record { cell = v .first; burst = v .second; count = v .third; user = v .fourth; written = v .fifth }) out
 
 -- "`pair CELL TYPE COUNT USER I LEVEL`", before it is written as a line
 unfoldable pub pairAsked : Values → Answer (Float × Float)

@@ -13,6 +13,7 @@ pub fn help(out: &mut [u8; 4096], at: usize) -> usize {
             \x20                                       SLOT up|down TYPE FACTOR INDEX USER TFCI TPC\n\
             chip CELL TYPE COUNT USER I             chip P\n\
             midamble CELL TYPE COUNT USER           midamble and its chips, digits 0 to 3\n\
+            block CELL TYPE COUNT USER PLACE LENGTH block N and N chips, those behind the first PLACE, as many as LENGTH bytes take\n\
             pair CELL TYPE COUNT USER I LEVEL       pair RE IM, for the signal card at a level of 1 to 2047\n\
             pairs CELL TYPE COUNT USER LEVEL        pairs and RE IM of every chip\n\
             parts TYPE up|down FACTOR TFCI TPC      parts, seven START+LENGTH, bits B1 B2\n\

@@ -54,6 +54,15 @@ pub fn digits(out: &mut [u8; 4096], at: usize, word: &[u8], values: &[u8], count
     printing::put(out, n, b'\n')
 }
 
+// `block`, how many values, and behind a blank the values as digits; nothing behind 0.
+pub fn counted(out: &mut [u8; 4096], at: usize, values: &[u8], count: u32) -> usize {
+    if count == 0 {
+        return printing::word(out, at, b"block 0\n");
+    }
+    let n = named(out, at, b"block # ", count);
+    digits(out, n, b"", values, count)
+}
+
 // A word and the first floats of a row as whole numbers, parted by blanks.
 pub fn wholes(out: &mut [u8; 4096], at: usize, word: &[u8], row: &[f32], count: u32) -> usize {
     let n = printing::word(out, at, word);
@@ -106,6 +115,7 @@ pub fn expected(out: &mut [u8; 4096], at: usize, number: u64, call: u32) -> usiz
             list SEAT\n\
             chip CELL TYPE COUNT USER I\n\
             midamble CELL TYPE COUNT USER\n\
+            block CELL TYPE COUNT USER PLACE LENGTH\n\
             pair CELL TYPE COUNT USER I LEVEL\n\
             pairs CELL TYPE COUNT USER LEVEL\n\
             parts TYPE up|down FACTOR TFCI TPC\n\

@@ -7,8 +7,10 @@ use Prim.Native.Nat.{ℕ, _+_, _-_}
 use lib.Dec.{eqb}
 use lib.ListN.{getD}
 use lib.Ieee.{Float}
-use Rattle.refusals.specs.Refusals.{Answer, refused, answered, answer, _leaving_}
+use Rattle.refusals.specs.Refusals.{Answer, refused, answered, firstOf, answer, _leaving_}
 use Rattle.midambles.specs.Calls.{chipAnswer, midambleOutcome}
+use Rattle.blocks.specs.declared.Place.{Place}
+use Rattle.blocks.specs.Calls.{startAnswer, blockRefusals, blockOutcome}
 use Rattle.signal_card.specs.Calls.{pairAnswer, pairsOutcome}
 use Rattle.timeslots.specs.Timeslots.{Part, DATA1, TFCI1, MIDAMBLE, TPC, TFCI2, DATA2, GUARD, order, partLengths, spans, sevenParts}
 use Rattle.beacons.specs.Beacons.{beaconsOf}
@@ -22,6 +24,7 @@ use Rattle.mqarbset_answers.specs.Answers.{answerAsC, outcomeAsC, answerInC}
 use Rattle.mqarbset_answers.specs.Slots.{partsAsC, partNumber, placeAsC, beaconsAsC, zipped, partsInC, placeInC, beaconsInC}
 use Rattle.mqarbset_answers.specs.Pages.{indicatorAsC, ownerAsC, indicatorInC, ownerInC}
 use Rattle.mqarbset_answers.specs.Pairs.{pairAsC, pairInC}
+use Rattle.mqarbset_answers.specs.Blocks.{placeAsHeld, heldAsPlace, startAsC, startInC, blockAsC, blockOutcomeAsC, blockInC}
 use Rattle.mqarbset.specs.Calls.{partsAnswerOverC, atAnswerOverC}
 
 -- an answer that goes by a first refusal's number is read back if its value is
@@ -78,6 +81,27 @@ pub read-pairs : (cell burst count user level : ℕ) (out : List Float)
     → answerInC (outcomeAsC (pairsOutcome cell burst count user level out) .0) leaving outcomeAsC (pairsOutcome cell burst count user level out) .1 ≡ pairsOutcome cell burst count user level out
 unfolding pairsOutcome
 read-pairs cell burst count user level out = read-leaving _ _ _
+
+-- ---- blocks: a place is held and handed in as it was handed back
+
+pub held-back : (p : Place) → heldAsPlace (placeAsHeld p) ≡ p
+unfolding heldAsPlace placeAsHeld
+held-back p = refl
+
+pub read-block-start : (cell burst count user : ℕ) → startInC (startAsC (startAnswer cell burst count user)) ≡ startAnswer cell burst count user
+unfolding startInC startAsC startAnswer heldAsPlace placeAsHeld
+read-block-start cell burst count user = back startAsC startInC (λ m e. simp e) _ _ (λ _. refl)
+
+-- the bytes and the place are in the struct whatever the answer
+read-with-place : (z : Bool) (n v : ℕ) (m : Place × List ℕ) → eqb n 0 ≡ z
+    → blockInC (blockOutcomeAsC (cond z (answered v) (refused n) leaving m)) ≡ cond z (answered v) (refused n) leaving m
+unfolding blockInC blockOutcomeAsC blockAsC heldAsPlace placeAsHeld
+read-with-place true n v m e = refl
+read-with-place false n v m e = simp e
+
+pub read-block : (p : Place) (out : List ℕ) → blockInC (blockOutcomeAsC (blockOutcome p out)) ≡ blockOutcome p out
+unfolding blockOutcome answer
+read-block p out = read-with-place (eqb (firstOf (blockRefusals p)) 0) (firstOf (blockRefusals p)) _ _ refl
 
 -- ---- the other structs
 

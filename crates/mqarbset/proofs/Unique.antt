@@ -2,7 +2,6 @@
 -- function's own clauses, so a weakened promise fails here. Cited by no proof. Assumes nothing.
 use mathlib.Core.Path.{_≡_, sym, ap, _∙_}
 use denote.Ref.{now}
-use Rattle.mqarbset_answers.specs.declared.MqAnswer.{MqAnswer}
 use Rattle.mqarbset.proofs.mq_midamble_chip.Reads as chip
 use Rattle.mqarbset.proofs.mq_midamble.Reads as midamble
 use Rattle.mqarbset.proofs.book.mq_list_bytes.Reads as list
@@ -14,6 +13,8 @@ use Rattle.mqarbset.proofs.book.mq_open_value.Reads as opens
 use Rattle.mqarbset.proofs.book.mq_book_value.Reads as book
 use Rattle.mqarbset.proofs.book.mq_cancel_value.Reads as cancel
 use Rattle.mqarbset.proofs.book.mq_close_value.Reads as close
+use Rattle.mqarbset.proofs.by_block.mq_block_start.Reads as block-start
+use Rattle.mqarbset.proofs.by_block.mq_block_value.Reads as block
 use Rattle.mqarbset.proofs.pairs.mq_pair.Reads as pair
 use Rattle.mqarbset.proofs.pairs.mq_pairs.Reads as pairs
 use Rattle.mqarbset.proofs.slots.mq_parts.Reads as parts
@@ -25,10 +26,10 @@ use Rattle.mqarbset.proofs.version.mq_version.Reads as version
 use Rattle.mqarbset.proofs.version.mq_book_bytes.Reads as book-bytes
 
 -- a promise that is one equation leaves one reply, and one memory
-once : {M : Type 0} (o : MqAnswer × M) (r r' : MqAnswer) (m m' : M) → _≡_ {A = MqAnswer × M} (r, m) o → _≡_ {A = MqAnswer × M} (r', m') o → (r ≡ r') × (m ≡ m')
-once {M} o r r' m m' p q =
+once : {R M : Type 0} (o : R × M) (r r' : R) (m m' : M) → _≡_ {A = R × M} (r, m) o → _≡_ {A = R × M} (r', m') o → (r ≡ r') × (m ≡ m')
+once {R} {M} o r r' m m' p q =
     let e = p ∙ sym q in
-    (ap (λ (x : MqAnswer × M). x .0) e, ap (λ (x : MqAnswer × M). x .1) e)
+    (ap (λ (x : R × M). x .0) e, ap (λ (x : R × M). x .1) e)
 
 -- ---- calls that lend no memory
 
@@ -49,6 +50,12 @@ mq-midamble-chip-total κs a = tt
 
 pub mq-midamble-chip-unique : (κs : _) (a : _) (r r' : _) (s s' : _) → chip.Post κs a r s → chip.Post κs a r' s' → r ≡ r'
 mq-midamble-chip-unique κs a r r' s s' p q = p ∙ sym q
+
+pub mq-block-start-total : (κs : _) (a : _) → block-start.Pre κs a
+mq-block-start-total κs a = tt
+
+pub mq-block-start-unique : (κs : _) (a : _) (r r' : _) (s s' : _) → block-start.Post κs a r s → block-start.Post κs a r' s' → r ≡ r'
+mq-block-start-unique κs a r r' s s' p q = p ∙ sym q
 
 pub mq-pair-total : (κs : _) (a : _) → pair.Pre κs a
 mq-pair-total κs a = tt
@@ -123,6 +130,12 @@ mq-midamble-total κs a = tt
 
 pub mq-midamble-unique : (κs : _) (a : _) (r r' : _) (s s' : _) → midamble.Post κs a r s → midamble.Post κs a r' s' → (r ≡ r') × (now (s .1 .1 .1 .1 .0) ≡ now (s' .1 .1 .1 .1 .0))
 mq-midamble-unique κs a r r' s s' p q = once _ r r' _ _ p q
+
+pub mq-block-value-total : (κs : _) (a : _) → block.Pre κs a
+mq-block-value-total κs a = tt
+
+pub mq-block-value-unique : (κs : _) (a : _) (r r' : _) (s s' : _) → block.Post κs a r s → block.Post κs a r' s' → (r ≡ r') × (now (s .1 .0) ≡ now (s' .1 .0))
+mq-block-value-unique κs a r r' s s' p q = once _ r r' _ _ p q
 
 pub mq-pairs-total : (κs : _) (a : _) → pairs.Pre κs a
 mq-pairs-total κs a = tt

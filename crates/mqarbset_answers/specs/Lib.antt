@@ -2,3 +2,4 @@ pub mod Answers
 pub mod Slots
 pub mod Pages
 pub mod Pairs
+pub mod Blocks

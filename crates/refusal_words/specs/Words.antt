@@ -1,5 +1,5 @@
--- Document 01, "Refusal numbers": the words of each number, the column Condition of its table, but for 3, 4 and 16, which document 02 makes untrue, and 22, which
--- it adds: it gives none for these, and docs/LESSONS.md, "Refusals", has theirs. Cited by the promise of `words`.
+-- Document 01, "Refusal numbers": the words of each number, the column Condition of its table, but for 3, 4 and 16, which document 02 makes untrue, and 22 and 23,
+-- which it adds: it gives none for these, and docs/LESSONS.md, "Refusals", has theirs. Cited by the promise of `words`.
 -- Assumes nothing.
 use mathlib.Core.Bool.{cond}
 use mathlib.Core.List.{List, [], _∷_, _++_}
@@ -36,7 +36,8 @@ conditions =
     "seat holds 40" ∷
     "common room used up" ∷
     "no such booking" ∷
-    "level not 1 to 2047" ∷ []
+    "level not 1 to 2047" ∷
+    "place above the midamble length" ∷ []
 
 -- a number that is no refusal's has no words
 unfoldable pub wordsOf : ℕ → List ℕ

@@ -108,13 +108,14 @@ fn words_to_21(number: u32, out: &mut [u8]) -> WordsAnswer
     }
 }
 
-// Of 22, which is document 02's; and none above it.
+// Of 22 and 23, which are document 02's; and none above them.
 fn words_from_22(number: u32, out: &mut [u8]) -> WordsAnswer
     requires { ⌜ 22 ≤ number ⌝ }
     ensures { λ r. ⌜ saidWords r leaving now (out .exit) ≡ wordsOutcome number (now (out .entry)) ⌝ }
 {
     match number {
         22 => put(b"level not 1 to 2047", out),
+        23 => put(b"place above the midamble length", out),
         _ => put(b"", out),
     }
 }

@@ -1,4 +1,4 @@
--- `refusal_words::words_from_22` meets its promise: the text of 22 is that of the definition, by computation, and above it there is none.
+-- `refusal_words::words_from_22` meets its promise: the texts of 22 and 23 are those of the definition, by computation, and above them there is none.
 -- Assumes nothing.
 use borrow.Author.Needs.{needs}
 use Rattle.refusal_words.specs.Words.{wordsOf}
@@ -18,6 +18,12 @@ slice-aggregate-put-2 c = search needs
 put-requires-2 : tie.Need-put-requires-2
 put-requires-2 c κs = search needs
 
+slice-aggregate-put-3 : tie.Need-slice-aggregate-put-3
+slice-aggregate-put-3 c = search needs
+
+put-requires-3 : tie.Need-put-requires-3
+put-requires-3 c κs = search needs
+
 same-length : tie.Need-same-length
 same-length c = search needs
 
@@ -29,7 +35,14 @@ same-length-2 : tie.Need-same-length-2
 same-length-2 c = search needs
 
 returns-2 : tie.Need-returns-2
-returns-2 c = no-words _ _ (λ _. beyond 21 1 _ (c .before .before .before .before .before .match .rest) (c .before .before .before .before .before .before .before .pre)) (c .before .before .put2 .ensures)
+unfolding wordsOf
+returns-2 c = by-number _ 23 _ (c .before .before .before .before .before .match .keys2) (c .before .before .put2 .ensures)
+
+same-length-3 : tie.Need-same-length-3
+same-length-3 c = search needs
+
+returns-3 : tie.Need-returns-3
+returns-3 c = no-words _ _ (λ _. beyond 21 2 _ (c .before .before .before .before .before .match .rest) (c .before .before .before .before .before .before .before .pre)) (c .before .before .put3 .ensures)
 
 pub words-from-22-spec : {M : Type 1} → statement M
 words-from-22-spec =
@@ -39,7 +52,11 @@ words-from-22-spec =
     put-requires
     slice-aggregate-put-2
     put-requires-2
+    slice-aggregate-put-3
+    put-requires-3
     same-length
     returns
     same-length-2
-    returns-2)
+    returns-2
+    same-length-3
+    returns-3)

@@ -52,6 +52,7 @@ static void blocks(void)
     place.written++;
     refused("place 513", mq_block(&place, chips, sizeof chips).refusal);
     printf("the place is handed back: %u\n", (unsigned)place.written);
+    refused("no place", mq_block(NULL, chips, sizeof chips).refusal);
 }
 
 static void signal_card(void)

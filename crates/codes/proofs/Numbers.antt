@@ -1,4 +1,4 @@
--- What both codes share, how far a shift goes, and the last element that is read. Cited by the proofs of this crate and of the crates elements, midambles, signal_card, classbook and facts.
+-- What both codes share, how far a shift goes, and the last element that is read. Cited by the proofs of this crate and of the crates elements, midambles, blocks, signal_card, classbook and facts.
 -- Assumes nothing.
 use mathlib.Core.Path.{_≡_, refl, sym, subst}
 use mathlib.Core.Bool.{Bool, true, false, cond}

@@ -1,5 +1,5 @@
 -- Document 01, "Training sequences": the numbers of both codes, the users' shifts, and (document 02, C-13) the users that a count permits. Cited by the
--- promises of this crate, by conditions, midambles and signal_card. Shifts and users are defined once, over the numbers of a code; long and short codes only
+-- promises of this crate, by conditions, midambles, blocks and signal_card. Shifts and users are defined once, over the numbers of a code; long and short codes only
 -- fill them in. Assumes nothing.
 use mathlib.Core.Bool.{Bool, cond, _&&_, _||_}
 use Prim.Native.Nat.{ℕ, _+_, _-_, _*_, _%_}

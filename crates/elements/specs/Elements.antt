@@ -1,4 +1,4 @@
--- Document 01, "Training sequences": the elements of a row, defined once over the period. Cited by the promises of this crate, by midambles and by signal_card.
+-- Document 01, "Training sequences": the elements of a row, defined once over the period. Cited by the promises of this crate, by midambles, blocks and signal_card.
 -- Assumes nothing.
 use mathlib.Core.Bool.{cond}
 use mathlib.Core.List.{List}

@@ -3,7 +3,7 @@
 use mathlib.Core.List.{List, [], _∷_, _++_}
 use Prim.Native.Nat.{ℕ}
 use lib.ListN.{take}
-use Rattle.refusals.specs.Refusals.{Answer, Outcome, refused, answered, _leaving_}
+use Rattle.refusals.specs.Refusals.{Outcome, refused, answered, _leaving_}
 use Rattle.blocks.specs.declared.Place.{Place}
 use Rattle.blocks.specs.Calls.{blockOutcome}
 

@@ -1,4 +1,4 @@
--- What each `return` of the two calls answers, over plain values. Cited by the proofs of midamble_chip and midamble, and by the crates signal_card and facts.
+-- What each `return` of the two calls answers, over plain values. Cited by the proofs of midamble_chip and midamble, and by the crates blocks, signal_card and facts.
 -- Assumes nothing.
 use mathlib.Core.Path.{_≡_, sym, ap, _∙_}
 use mathlib.Core.Bool.{false, _||_}

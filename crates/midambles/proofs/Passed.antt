@@ -1,4 +1,4 @@
--- What a call knows whose user was not refused. Cited by proofs/Answers.antt, the calls' proofs and the crate signal_card.
+-- What a call knows whose user was not refused. Cited by proofs/Answers.antt, the calls' proofs and the crates blocks and signal_card.
 -- Assumes nothing.
 use mathlib.Core.Path.{_≡_}
 use mathlib.Core.List.{[]}

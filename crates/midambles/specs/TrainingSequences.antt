@@ -1,4 +1,4 @@
--- Document 01, "Training sequences": the chips of a user's midamble. Cited by specs/Calls.antt and by the crate signal_card.
+-- Document 01, "Training sequences": the chips of a user's midamble. Cited by specs/Calls.antt and by the crates blocks and signal_card.
 -- They are defined once, over the numbers of a code (crate codes); long and short codes only fill them in. Assumes nothing.
 use mathlib.Core.List.{List, []}
 use Prim.Native.Nat.{ℕ, _+_}

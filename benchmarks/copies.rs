@@ -2,7 +2,8 @@
 //!
 //! Plain Rust copies the same bytes by one memcpy, the quickest copy that we know of: where that is taken off the
 //! library's time, rather too little is. What the library's own copy takes is seen by a single chip, which is read out of
-//! the copied table: so much more it takes than plain Rust's, which reads the table where it lies.
+//! the copied table: so much more it takes than plain Rust's, which reads the table where it lies. Whatever else a chip
+//! takes longer in the library is in it, so that here rather too much is taken off.
 
 use crate::plain::midambles::{self as plain, LONG, SHORT};
 use library::MqAnswer;
@@ -42,8 +43,8 @@ fn chip(burst: u32, count: u32, read: fn(u32, u32, u32, u32, u32) -> MqAnswer) {
 }
 
 /// A row table at an address that 64 divides, and so its copy on the stack. Where the copy stands in its page a few
-/// bytes behind where the table does, some processors take thirty times as long, and where the stack begins changes
-/// from run to run.
+/// bytes behind where the table does, some processors copy far more slowly, and where the stack begins changes from run
+/// to run.
 #[derive(Clone, Copy)]
 #[repr(align(64))]
 struct Rows<const N: usize>([u8; N]);

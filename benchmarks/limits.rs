@@ -26,7 +26,7 @@ pub const BLOCK_BY_DIGITS: Limit = Limit {
 };
 pub const MIDAMBLE_IN_BLOCKS: Limit = Limit {
     what: "a whole midamble in blocks of 64 (less the library's own copy of the row table for each block)",
-    of: "the library's own in one call",
+    of: "the library's own in one call, with its copy",
     times: 1.5,
 };
 pub const PAIRS: Limit = Limit {

@@ -122,21 +122,21 @@ def blocks():
         card = mqarbset.blocks(17, burst, count, user)
         start = card.place
         holds('a midamble starts with nothing written', start == (17, burst, count, user, 0))
-        holds('a block of 0 takes none and keeps the place', card.take(0) == b'' and card.place == start)
-        first, second = card.take(64), card.take(100)
+        holds('a block of 0 takes none and keeps the place', card.block(0) == b'' and card.place == start)
+        first, second = card.block(64), card.block(100)
         kept = card.place
         holds('the place counts what is written', kept == start._replace(written=164))
-        holds('64 chips, then 100, then the rest', first + second + card.take(10 ** 9) == whole)
+        holds('64 chips, then 100, then the rest', first + second + card.block(10 ** 9) == whole)
         holds('from a kept place it goes on', b''.join(mqarbset.Blocks(kept)) == whole[164:])
-        holds('at the end each block takes none', card.take(1) == card.take(512) == b'' and list(card) == [] and card.place.written == chips)
+        holds('at the end each block takes none', card.block(1) == card.block(512) == b'' and list(card) == [] and card.place.written == chips)
         beyond = mqarbset.Blocks(start._replace(written=chips + 1))
-        holds('a place above the length is refused with 23', raised(Refused, beyond.take, 0).number == raised(Refused, next, beyond).number == 23)
+        holds('a place above the length is refused with 23', raised(Refused, beyond.block, 0).number == raised(Refused, next, beyond).number == 23)
         holds('and stays as it was', beyond.place.written == chips + 1)
     for place, number in (((128, 4, 5, 0, 513), 1), ((0, 4, 5, 0, 513), 2), ((0, 1, 5, 0, 513), 3), ((0, 1, 8, 9, 513), 4), ((0, 2, 6, 6, -1), 23)):
-        holds(f'a block there is refused with {number}', raised(Refused, mqarbset.Blocks(place).take, 1).number == number)
+        holds(f'a block there is refused with {number}', raised(Refused, mqarbset.Blocks(place).block, 1).number == number)
     holds('a start is refused at once', [raised(Refused, mqarbset.blocks, *place).number for place in ((128, 4, 5, 0), (0, 4, 5, 0), (0, 1, 5, 0), (0, 1, 8, 9))] == [1, 2, 3, 4])
     raised(ValueError, mqarbset.blocks, 0, 1, 8, 8, 0)
-    raised(ValueError, mqarbset.blocks(0, 1, 8, 8).take, -1)
+    raised(ValueError, mqarbset.blocks(0, 1, 8, 8).block, -1)
     raised(TypeError, mqarbset.Blocks, (0, 1, 8, 8))
 
 

@@ -47,10 +47,10 @@ def questions():
 
     tried('the midamble in blocks of 200 chips', lambda: [len(block) for block in mqarbset.blocks(0, 1, 8, 8, length=200)])
     card = mqarbset.blocks(0, 1, 8, 8)
-    tried('64 chips, then 100, then what is left', lambda: [len(card.take(length)) for length in (64, 100, 512)])
+    tried('64 chips, then 100, then what is left', lambda: [len(card.block(length)) for length in (64, 100, 512)])
     tried('the place behind them', lambda: card.place)
-    tried('a block behind the end', card.take, 64)
-    tried('a place that no midamble has', mqarbset.Blocks(card.place._replace(written=513)).take, 64)
+    tried('a block behind the end', card.block, 64)
+    tried('a place that no midamble has', mqarbset.Blocks(card.place._replace(written=513)).block, 64)
 
     tried('chip 4 for the signal card at level 1000', mqarbset.pair, 0, 1, 8, 8, 4, 1000)
     tried('the first four chips at level 1000', lambda: mqarbset.pairs(0, 1, 8, 8, 1000)[:8])

@@ -1,20 +1,20 @@
-/* mqarbset: midambles, whole and by the block, chips for the signal card, timeslot parts, beacon timeslots, paging bits and the class book of the 3.84 Mcps option of
- * 3GPP TS 25.221.
+/* mqarbset: midambles, whole and by the block, chips for the signal card, timeslot parts, beacon timeslots, paging bits and the class book of the
+ * 3.84 Mcps option of 3GPP TS 25.221.
  *
  * Every call here is proved against its definition (crates/mqarbset): for all numbers, all bytes and all lengths of lent memory it answers as
  * documents 01 and 02 say, or refuses with their number, and a refused call leaves the book and all lent memory as they
  * were. The few lines of C in this header, the functions marked `static inline`, are not part of the proof.
  *
  * Numbers are uint32_t, and any value may be handed in. A refusal is one of enum mq_refusal; 0 is none. If several apply, the lowest is given,
- * and every other number of the answer is 0, but for a place in a midamble, which is handed back as it was.
+ * and every other number of the answer is 0, but for the place that a refused block hands back.
  * Lent memory is a pointer and a length; it may be longer than needed (only the first places are read or written) and must not overlap other
  * lent memory that is written. The pointer may be NULL where the length is 0.
  *
  * Link with -lmqarbset (pkg-config mqarbset). x86-64 only.
  *
- * Threads: no call keeps anything between calls, so any thread may call any of them at any time, on books of its own and memory of its own,
+ * Threads: no call keeps anything between calls, so any thread may call any of them at any time, on books, places and memory of its own,
  * without a lock. A book that threads share needs the caller's lock around every call on it, a list too: the book is read, changed and stored
- * again, and two calls at once can leave bytes that are no book, which every later call refuses with 12.
+ * again, and two calls at once can leave bytes that are no book, which every later call refuses with 12. So does a place that they share.
  * Stack: each call says how much it takes at most, with the few frames of this header; a thread needs that and its own.
  */
 #ifndef MQARBSET_H
@@ -166,13 +166,13 @@ MQ_MUST_USE mq_answer mq_midamble(uint32_t cell, uint32_t burst, uint32_t count,
 
 /* A place in a midamble, which the caller holds: which midamble it is, and how many of its chips are written already. mq_block_start makes it,
  * and each mq_block moves it on. It is plain numbers: it may be copied and kept, and written by hand to go on anywhere else. Any numbers may be
- * handed in; a place that is none is refused. */
+ * handed in; numbers that are no place are refused. */
 typedef struct mq_block_place {
     uint32_t cell;
     uint32_t burst;
     uint32_t count;
     uint32_t user;
-    uint32_t written;           /* 0 to MQ_LONG_MIDAMBLE, or MQ_SHORT_MIDAMBLE for type 2: the end */
+    uint32_t written;           /* 0 to MQ_LONG_MIDAMBLE (type 2: MQ_SHORT_MIDAMBLE), the end */
 } mq_block_place;
 
 /* Where a midamble starts; refused, every number of the place is 0. */

@@ -4,7 +4,8 @@ timeslots, paging bits and the class book of the 3.84 Mcps option of 3GPP TS 25.
 Over the C interface (include/mqarbset.h), with ctypes of the standard library only. A call that is
 refused raises Refused, which has the refusal's number and words; the book is then as it was. Whole
 numbers of any size may be handed in, and the library refuses what it must; what is no whole number,
-or no bytes where bytes are expected, is a TypeError that names the parameter. The library does all
+or no bytes where bytes are expected, is a TypeError that names the parameter, and a negative length of
+a block, or blocks of length 0, a ValueError. The library does all
 the work and is proved; this module is not.
 
 The shared library is the one that MQARBSET_LIBRARY names, or the one that install.sh installed with
@@ -206,37 +207,31 @@ class _Lent:
         self.passed = [ctypes.cast(buffer, kind), size]
 
 
+def _whole(name, value):
+    """A whole number."""
+    try:
+        return operator.index(value)
+    except TypeError:
+        raise TypeError(f'{name} must be a whole number, not {type(value).__name__}') from None
+
+
 def _number(name, value):
     """A number as the library takes it. What does not fit 32 bits goes as the largest that does: every
     call refuses both alike."""
-    try:
-        n = operator.index(value)
-    except TypeError:
-        raise TypeError(f'{name} must be a whole number, not {type(value).__name__}') from None
+    n = _whole(name, value)
     return n if 0 <= n <= _LARGEST else _LARGEST
 
 
-def _length(value):
-    """How many bytes a block has."""
-    try:
-        n = operator.index(value)
-    except TypeError:
-        raise TypeError(f'length must be a whole number, not {type(value).__name__}') from None
-    if n < 0:
-        raise ValueError('length must not be negative')
-    return n
-
-
-def _some(value):
-    """How many bytes each of a row of blocks has."""
-    n = _length(value)
-    if n == 0:
-        raise ValueError('length must be at least 1: blocks of 0 bytes never end')
+def _length(value, least):
+    """How many bytes a block has, at least so many."""
+    n = _whole('length', value)
+    if n < least:
+        raise ValueError(f'length must be at least {least}, not {n}')
     return n
 
 
 def _place(held):
-    """A place as the library holds it."""
+    """The library's struct as a BlockPlace."""
     return BlockPlace(*(getattr(held, name) for name in BlockPlace._fields))
 
 
@@ -295,24 +290,25 @@ def midamble(cell: int, burst: int, count: int, user: int) -> bytes:
 
 class Blocks:
     """A midamble block by block, from a place on: an iterator of bytes, a byte a chip. Each block has `length`
-    chips, the last one those that are left; `take` gives a block of another length in between.
+    chips, at least 1, and the last one those that are left; `block` gives one of another length in between.
 
     However a midamble is cut, its blocks joined are midamble's bytes. `place` is where the next block begins: a
-    Blocks made with it goes on from there. A place whose numbers are none is refused with 1, 2, 3, 4, 23 when a
-    block is asked for, and stays as it was. length is at least 1.
+    Blocks made with it goes on from there. Numbers that are no place are refused with 1, 2, 3, 4, 23 when a block
+    is asked for, and the place stays as it was. For one thread at a time.
     """
 
     def __init__(self, place: BlockPlace, length: int = 64) -> None:
-        self._length = _some(length)
+        self._length = _length(length, 1)
         self._place = _BlockPlace(*(_number(name, value) for name, value in BlockPlace(*place)._asdict().items()))
 
     @property
     def place(self) -> BlockPlace:
+        """Where the next block begins; a number that does not fit 32 bits is the largest that does."""
         return _place(self._place)
 
-    def take(self, length: int) -> bytes:
-        """The next block: length chips, or as many as are left; none at the end, and none of 0."""
-        room = min(_length(length), _LONG_MIDAMBLE)
+    def block(self, length: int) -> bytes:
+        """The next block: length chips, or as many as are left; none at the end, and none where length is 0."""
+        room = min(_length(length, 0), _LONG_MIDAMBLE)
         out = ctypes.create_string_buffer(room)
         answer = _call('mq_block_value', self._place, out=_Lent(out, room))
         self._place = answer.place
@@ -322,7 +318,7 @@ class Blocks:
         return self
 
     def __next__(self) -> bytes:
-        block = self.take(self._length)
+        block = self.block(self._length)
         if not block:
             raise StopIteration
         return block
@@ -336,9 +332,8 @@ def blocks(cell: int, burst: int, count: int, user: int, length: int = 64) -> Bl
 
     length at least 1; the others as for midamble. Refused with 1, 2, 3, 4.
     """
-    length = _some(length)
-    start = _call('mq_block_start', cell=cell, burst=burst, count=count, user=user).place
-    return Blocks(_place(start), length)
+    length = _length(length, 1)
+    return Blocks(_place(_call('mq_block_start', cell=cell, burst=burst, count=count, user=user).place), length)
 
 
 def pair(cell: int, burst: int, count: int, user: int, chip: int, level: int) -> Tuple[float, float]:

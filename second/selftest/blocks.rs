@@ -143,7 +143,7 @@ fn card_figures(rows: &Rows) -> Vec<Figure> {
     ]
 }
 
-/// Whether a midamble is cut into blocks of these lengths as it has to be: each writes so many chips as block and
+/// Whether a midamble is cut into blocks of these lengths as it has to be: each writes as many chips as block and
 /// midamble have left, "the chips joined are those of document 01", the last block ends at the midamble length, and two
 /// blocks more, of 0 bytes and of 9, write none and keep the place.
 fn joins(rows: &Rows, numbers: [u32; 4], lengths: impl Iterator<Item = usize>) -> bool {

@@ -1,4 +1,5 @@
--- Document 02, C-15, "Midambles by the block": what goes into a block, and the place behind it. Cited by specs/Calls.antt and by the crate facts.
+-- Document 02, C-15, "Midambles by the block": what goes into a block, and the place behind it. Cited by specs/Calls.antt, by the promises of
+-- fitting, fill and behind, and by the crate facts.
 -- Over document 01's chips of a midamble (crate midambles), so that what a midamble is stands in one place. Assumes nothing.
 use mathlib.Core.List.{List}
 use Prim.Native.Nat.{ℕ, _+_}

@@ -1,5 +1,5 @@
 -- What the two calls of document 02's C-15 answer, for all inputs: their refusals, what their enums say, their outcomes.
--- Cited by the promises of start and block. Assumes nothing.
+-- Cited by the promises of start, refusal_at and block, and by the crates facts, mqarbset and lesson_replies. Assumes nothing.
 use mathlib.Core.List.{List, [], _∷_, _++_}
 use Prim.Native.Nat.{ℕ}
 use lib.ListN.{length, drop}

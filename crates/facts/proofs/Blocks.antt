@@ -5,13 +5,15 @@
 use mathlib.Core.Path.{_≡_, refl, sym, ap, _∙_}
 use mathlib.Core.Bool.{Bool, true, false, cond}
 use mathlib.Core.List.{List, [], _∷_, _++_}
+use mathlib.Core.Logic.{⊎-elim}
 use Prim.Native.Nat.{ℕ, _+_, _≤_}
 use native.Mathlib.Omega.{arith}
 use lib.Dec.{eqb}
 use lib.ListN.{length, take, drop}
 use lib.Seq.{take-all, take-at, take-nil}
 use borrow.Author.Tests.{le-ltb}
-use Rattle.refusals.specs.Refusals.{Answer, Refusals, answered, refused, _leaving_}
+use Rattle.laws.proofs.Cases.{equal-or-not}
+use Rattle.refusals.specs.Refusals.{Answer, Outcome, Refusals, answered, refused, _leaving_}
 use Rattle.refusals.specs.Refusals.{firstOf, answer, after}
 use Rattle.refusals.proofs.First.{first-passes, append-passes}
 use Rattle.refusals.proofs.First.{answer-answered, answer-refused, after-answered, after-refused}
@@ -130,16 +132,25 @@ filled p out z h =
       ap bytesIn o ∙ first-bytes p out ∙ all,
     )
 
--- so two of them, of whatever lengths, have the same answer, place and bytes
-pub longer-alike : (p : Place) (out out' : List ℕ) → Good p
+-- so two of them, of whatever lengths, have the same answer, place and bytes; refused ones too
+abbrev Alike : Outcome ℕ (Place × List ℕ) → Outcome ℕ (Place × List ℕ) → Type 0
+Alike o o' = (answerOf o ≡ answerOf o') × (placeIn o ≡ placeIn o') × (bytesIn o ≡ bytesIn o')
+
+pub longer-alike : (p : Place) (out out' : List ℕ)
     → codeOf (p .burst) .length ≤ length out → codeOf (p .burst) .length ≤ length out'
-    → let o = blockOutcome p out in
-    let o' = blockOutcome p out' in
-    (answerOf o ≡ answerOf o') × (placeIn o ≡ placeIn o') × (bytesIn o ≡ bytesIn o')
-longer-alike p out out' z h h' =
+    → Alike (blockOutcome p out) (blockOutcome p out')
+unfolding answerOf placeIn bytesIn
+longer-alike p out out' h h' =
+    ⊎-elim
+    (λ (z : Good p).
     let one = filled p out z h in
     let other = filled p out' z h' in
-    (one .0 ∙ sym (other .0), one .1 ∙ sym (other .1), one .2 ∙ sym (other .2))
+    (one .0 ∙ sym (other .0), one .1 ∙ sym (other .1), one .2 ∙ sym (other .2)))
+    (λ (n : Good p → ⊥).
+    let one = refused-keeps p out n in
+    let other = refused-keeps p out' n in
+    (ap answerOf one ∙ sym (ap answerOf other), ap placeIn one ∙ sym (ap placeIn other), ap bytesIn one ∙ sym (ap bytesIn other)))
+    (equal-or-not (firstOf (blockRefusals p)) 0)
 
 -- ---- the whole midamble is the one block that is long enough
 

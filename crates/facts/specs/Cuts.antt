@@ -1,5 +1,6 @@
 -- Document 02, C-15: "However the blocks are cut, the chips joined are those of document 01." What a
--- caller has who lends one block after another. Cited by proofs/Blocks.antt. Assumes nothing.
+-- caller has who lends one block after another. Cited by proofs/Blocks.antt and
+-- proofs/Cuts.antt. Assumes nothing.
 use mathlib.Core.List.{List, [], _∷_, _++_}
 use Prim.Native.Nat.{ℕ}
 use lib.ListN.{take}

@@ -1,4 +1,4 @@
--- A list taken in parts: what is taken is no longer than the list, nor than was asked for, and two parts, one behind the other, are one. Cited by proofs/Runs.antt and by the theorems on blocks.
+-- A list taken in parts: what is taken is no longer than the list, nor than was asked for, and two parts, one behind the other, are one. Cited by proofs/Runs.antt, by the crate blocks and by the theorems on it.
 -- Assumes nothing.
 use mathlib.Core.Path.{_≡_, refl, sym, ap, _∙_}
 use mathlib.Core.List.{List, [], _∷_, _++_}

@@ -1,4 +1,4 @@
-// The words of each refusal, for a caller over C to show and for the program `bench`: document 01's, but for 3, 4, 16 and 22, whose words docs/LESSONS.md has.
+// The words of each refusal, for a caller over C to show and for the program `bench`: document 01's, but for 3, 4, 16, 22 and 23, whose words docs/LESSONS.md has.
 ghost use mathlib.Core.Path.{_≡_};
 ghost use mathlib.Core.List.{_++_};
 ghost use Prim.Native.Nat.{_≤_};

@@ -117,6 +117,18 @@ fn one((burst, count, chips): (u32, u32, u32)) -> Line {
     full(format!("block of {chips}, type {burst}"), burst, count, chips)
 }
 
+/// All cells and users, at the end of the midamble: nothing is written, and no table is fetched.
+fn at_the_end(burst: u32, count: u32) -> Line {
+    let length = code_of(burst).length;
+    let end = move |(cell, user)| MqBlockPlace { cell, burst, count, user, written: length };
+    let inputs = users(count).map(end).collect();
+    let (mut ours, mut theirs) = ([0; 64], [0; 64]);
+    let library = move |place: &MqBlockPlace| library::block(*place, black_box(&mut ours));
+    Line::new("block at the end, type 1", inputs, library, move |place| {
+        plain::block(*place, black_box(&mut theirs))
+    })
+}
+
 /// Less the library's own copy of the row table.
 fn by_digits((burst, count, chips): (u32, u32, u32)) -> Line {
     full(format!("type {burst}, block of {chips} (***)"), burst, count, chips)
@@ -125,7 +137,7 @@ fn by_digits((burst, count, chips): (u32, u32, u32)) -> Line {
 }
 
 pub fn lines() -> Vec<Line> {
-    let mut lines = vec![starts(1, 16)];
+    let mut lines = vec![starts(1, 16), at_the_end(1, 16)];
     lines.extend([(1, 16, 1), (1, 16, 64), (1, 16, 100), (1, 16, 512), (2, 6, 64)].map(one));
     lines.extend([(1, 16, 64), (1, 16, 100), (1, 16, 512), (2, 6, 64)].map(by_digits));
     lines

@@ -1,12 +1,14 @@
 //! The copy of a row table: the language copies a constant array to the stack once a call that reads it.
 //!
 //! Plain Rust copies the same bytes by one memcpy, the quickest copy that we know of: where that is taken off the
-//! library's time, rather too little is. What the library's own copy takes is seen by a single chip, which is read out of
-//! the copied table: so much more it takes than plain Rust's, which reads the table where it lies. Whatever else a chip
-//! takes longer in the library is in it, so that here rather too much is taken off.
+//! library's time, rather too little is. What the library's own copy takes is seen by a block of one chip, which is read
+//! out of the copied table: so much more it takes than plain Rust's, which reads the table where it lies. Whatever else
+//! such a block takes longer in the library is in it, so that here rather too much is taken off. How long a copy takes
+//! moves with where the stack begins, from run to run; a block of one chip has its copy where a longer one has it.
 
-use crate::plain::midambles::{self as plain, LONG, SHORT};
-use library::MqAnswer;
+use crate::plain::blocks as plain;
+use crate::plain::midambles::{code_of, LONG, SHORT};
+use library::{MqBlock, MqBlockPlace};
 use std::cell::Cell;
 use std::hint::black_box;
 
@@ -25,21 +27,23 @@ pub const SHORT_COPY: TableCopy =
 /// The library's own.
 pub const LONG_OWN: TableCopy = TableCopy {
     what: "the library's long one",
-    make: || chip(1, 16, library::chip),
-    besides: || chip(1, 16, plain::chip),
+    make: || one_chip(1, 16, library::block),
+    besides: || one_chip(1, 16, plain::block),
 };
 pub const SHORT_OWN: TableCopy = TableCopy {
     what: "the library's short one",
-    make: || chip(2, 6, library::chip),
-    besides: || chip(2, 6, plain::chip),
+    make: || one_chip(2, 6, library::block),
+    besides: || one_chip(2, 6, plain::block),
 };
 
-/// One chip: the next cell, user and chip each time, over all cells and users.
-fn chip(burst: u32, count: u32, read: fn(u32, u32, u32, u32, u32) -> MqAnswer) {
+/// A block of one chip: the next cell, user and place each time, over all cells and users.
+fn one_chip(burst: u32, count: u32, block: fn(MqBlockPlace, &mut [u8]) -> MqBlock) {
     thread_local!(static TURN: Cell<u32> = const { Cell::new(0) });
     let turn = TURN.get();
-    TURN.set(turn.wrapping_add(1));
-    black_box(read(turn % 128, burst, count, 1 + turn / 128 % count, 1 + 61 * (turn % 4)));
+    TURN.set((turn + 1) % 1_000_000);
+    let (cell, user) = (turn % 128, 1 + turn / 128 % count);
+    let written = 61 * turn % code_of(burst).length;
+    black_box(block(MqBlockPlace { cell, burst, count, user, written }, &mut [0]));
 }
 
 /// A row table at an address that 64 divides, and so its copy on the stack. Where the copy stands in its page a few

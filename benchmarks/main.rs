@@ -36,7 +36,7 @@ fn notes(lines: &[table::Line]) {
     println!("\n(*) less the copy of the row table: {long}, {short}, in this run; beside plain Rust that reads each digit once");
     println!("(**) for information, less the same copy: plain Rust that makes the floats of all sixteen digits at the level first");
     let (long, short) = (best(&LONG_OWN), best(&SHORT_OWN));
-    println!("(***) less the copy that the library itself makes of the row table, one for each block: {long}, {short}, in this run, taken as what a single chip costs beyond plain Rust's, which is rather too much than too little; a midamble in blocks of 64 has 8 of them (type 2: 4), beside the whole one in one call, of which nothing is taken off");
+    println!("(***) less the copy that the library itself makes of the row table, one for each block: {long}, {short}, in this run, taken as what a block of one chip costs beyond plain Rust's, which is rather too much than too little; a midamble in blocks of 64 has 8 of them (type 2: 4), beside the whole one in one call, of which nothing is taken off");
 }
 
 /// The tables of all calls; whether their limits hold.

@@ -2,13 +2,14 @@
 -- Assumes nothing.
 use mathlib.Core.Path.{_≡_, refl, sym, ap, _∙_}
 use mathlib.Core.Bool.{Bool, true, false, not, cond}
-use mathlib.Core.List.{List, [], _∷_}
+use mathlib.Core.List.{List}
 use Prim.Native.Nat.{ℕ, suc, _+_, _-_, _<_, _≤_}
 use native.Mathlib.Omega.{arith}
 use borrow.Author.Tests.{not-true, not-false, lt-ltb, le-ltb}
 use lib.ListN.{length, take, drop, length-drop}
 use lib.Seq.{length-take-le, take-all}
 use Rattle.laws.specs.Text.{bytes}
+use Rattle.laws.proofs.Parts.{length-none}
 use Rattle.classbook.specs.declared.Book.{Book}
 use Rattle.classbook.specs.declared.BookAnswer.{BookAnswer}
 use Rattle.lesson_words.specs.Words.{isByte, until, isBlankByte, isInk, inkOf, wordIn, restOf, sameText, isText}
@@ -127,13 +128,9 @@ module _ (name rest : List ℕ) (b : Book) where
       (fourth ∙ ap (λ (x : Book). cond (isText "close" name) (wordedBy 3 (bytes "n") rest b) x) others)))
 
 -- a line without words
-no-word : (l : List ℕ) → length l ≡ 0 → l ≡ []
-no-word [] e = refl
-no-word (x ∷ l) e = absurd (omega (arith, e))
-
 pub named-none : (name rest : List ℕ) (b : Book) → length name ≡ 0 → b ≡ namedLine name rest b
 unfolding namedLine isText sameText
-named-none name rest b h = ap (λ (n : List ℕ). namedLine n rest b) (sym (no-word name h))
+named-none name rest b h = ap (λ (n : List ℕ). namedLine n rest b) (sym (length-none name h))
 
 -- the text of a line is what stands before its comment
 pub at-bare : (line : List ℕ) (k : ℕ) (b r : Book) → k ≡ 0 + until (isByte 35) (drop 0 line) → r ≡ namedLine (wordIn (take k line)) (restOf (take k line)) b → r ≡ bookAfterLine line b

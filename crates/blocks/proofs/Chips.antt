@@ -6,7 +6,7 @@ use Prim.Native.Nat.{ℕ, _+_, _-_, _≤_}
 use native.Mathlib.Omega.{arith}
 use lib.ListN.{length, getD, take, drop, length-drop}
 use Rattle.laws.specs.Runs.{run}
-use Rattle.laws.proofs.Parts.{take-few, take-within}
+use Rattle.laws.proofs.Parts.{length-none, take-few, take-within}
 use Rattle.laws.proofs.Runs.{run-length, run-same, run-part}
 use Rattle.codes.specs.Codes.{codeOf, shiftOf}
 use Rattle.elements.specs.Elements.{rowsOf, element}
@@ -30,6 +30,12 @@ module _ (p : Place) where
   pub few : (chips : ℕ) (out : List ℕ) → chips ≡ length (blockOf p out) → (chips ≤ all - p .written) × (chips ≤ length out)
   unfolding blockOf
   few chips out e = (omega (arith, e, within (length out)), omega (arith, e, take-few (length out) (toCome p)))
+
+  -- where nothing goes in, all stays
+  pub none-in : (chips : ℕ) (out : List ℕ) → chips ≡ length (blockOf p out) → chips ≡ 0 → out ≡ blockOf p out ++ drop chips out
+  none-in chips out e z =
+      let none : blockOf p out ≡ [] = length-none (blockOf p out) (sym e ∙ z) in
+      sym (ap (λ (l : List ℕ). l ++ drop chips out) none ∙ ap (λ (k : ℕ). drop k out) z)
 
   -- elements read at the user's shift and so many places behind it are the chips from there on
   pub read-on : (chips by : ℕ) (out l : List ℕ) → p .written ≤ all → chips ≡ length (blockOf p out) → by ≡ shiftOf (codeOf (p .burst)) (p .user) + p .written

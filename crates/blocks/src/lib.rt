@@ -88,11 +88,14 @@ fn behind(place: Place, chips: u32) -> Place
     }
 }
 
-// So many chips from a place on, into the first bytes of `out`.
+// So many chips from a place on, into the first bytes of `out`. Where there are none, no table is fetched.
 fn fill(place: Place, chips: u32, out: &mut [u8])
     requires { ⌜ (place .cell < 128) × (1 ≤ place .user) × (place .written ≤ codeOf (place .burst) .length) × (chips ≡ length (blockOf place (now out))) ⌝ }
     ensures { λ _. ⌜ now (out .exit) ≡ blockOf place (now (out .entry)) ++ drop chips (now (out .entry)) ⌝ }
 {
+    if chips == 0 {
+        return;
+    }
     let by = codes::shift(place.burst, place.user) + place.written;
     elements::fill_elements(place.cell, place.burst, by, chips as usize, out);
 }

@@ -13,6 +13,7 @@ use lib.ListN.{length, take, drop}
 use lib.Seq.{take-all, take-at, take-nil}
 use borrow.Author.Tests.{le-ltb}
 use Rattle.laws.proofs.Cases.{equal-or-not}
+use Rattle.laws.proofs.Parts.{length-none}
 use Rattle.refusals.specs.Refusals.{Answer, Outcome, Refusals, answered, refused, _leaving_}
 use Rattle.refusals.specs.Refusals.{firstOf, answer, after}
 use Rattle.refusals.proofs.First.{first-passes, append-passes}
@@ -94,11 +95,7 @@ pub at-the-end : (p : Place) (out : List ℕ) → Good p → p .written ≡ code
 unfolding blockOf
 at-the-end p out z e =
     no-chips p out z
-    (ap (take (length out)) (no-more (toCome p) (omega (arith, to-come p, e))) ∙ take-nil (length out))
-  where
-    no-more : (l : List ℕ) → length l ≡ 0 → l ≡ []
-    no-more [] h = refl
-    no-more (x ∷ l) h = absurd (omega arith)
+    (ap (take (length out)) (length-none (toCome p) (omega (arith, to-come p, e))) ∙ take-nil (length out))
 
 -- ---- "a refused block writes nothing", and hands its place back
 

@@ -1,4 +1,4 @@
--- A list taken in parts: what is taken is no longer than the list, nor than was asked for, and two parts, one behind the other, are one. Cited by proofs/Runs.antt, by the crate blocks and by the theorems on it.
+-- A list of no length, and a list taken in parts: what is taken is no longer than the list, nor than was asked for, and two parts, one behind the other, are one. Cited by proofs/Runs.antt, by the crates blocks and bench and by the theorems on blocks.
 -- Assumes nothing.
 use mathlib.Core.Path.{_≡_, refl, sym, ap, _∙_}
 use mathlib.Core.List.{List, [], _∷_, _++_}
@@ -9,6 +9,10 @@ use lib.ListN.{length, take, drop}
 use lib.Seq.{take-nil}
 
 module _ {A : Type 0} where
+  pub length-none : (l : List A) → length l ≡ 0 → l ≡ []
+  length-none [] h = refl
+  length-none (x ∷ l) h = absurd (omega arith)
+
   pub take-within : (k : ℕ) (l : List A) → length (take k l) ≤ length l
   take-within zero l = omega arith
   take-within (suc k) [] = omega arith

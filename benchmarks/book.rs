@@ -1,4 +1,4 @@
-//! The class book over C: the caller's 5,232 bytes go in by value, all of them are tested, and the new book comes back
+//! The class book over C: the caller's 6,432 bytes go in by value, all of them are tested, and the new book comes back
 //! by value.
 
 use crate::dice::{same, Dice};
@@ -7,6 +7,10 @@ use crate::plain::book as plain;
 use crate::table::Line;
 use library::{MqBook, MqBookAnswer, BOOK_BYTES};
 use std::hint::black_box;
+
+/// Bytes of a seat: 7, 40 places of 8, 15 timeslots of 5.
+const SEAT_BYTES: usize = BOOK_BYTES / 16;
+const SLOTS_AT: usize = 7 + 40 * 8;
 
 /// What was compared, and how often each refusal came.
 #[derive(Default)]
@@ -33,6 +37,20 @@ impl Tally {
         same((r, ours), (s, theirs), || format!("list {seat}, {length} bytes lent"));
         self.calls += 1;
         self.seen[r.refusal as usize] += 1;
+    }
+
+    fn summary(&mut self, b: MqBook, seat: u32, timeslot: u32) {
+        let (r, s) = (library::summary(b, seat, timeslot), plain::summary(b, seat, timeslot));
+        same(r, s, || format!("summary {seat} {timeslot}"));
+        self.calls += 1;
+        self.seen[r.refusal as usize] += 1;
+    }
+
+    /// Every timeslot of a seat.
+    fn summaries(&mut self, b: MqBook, seat: u32) {
+        for timeslot in 0..16 {
+            self.summary(b, seat, timeslot);
+        }
     }
 }
 
@@ -87,7 +105,7 @@ fn call(tally: &mut Tally, dice: &mut Dice, b: MqBook) -> MqBook {
         }
         // A booking that is there, if the seat has one.
         20..=29 => {
-            let place = seat as usize % 16 * 327 + 7 + 8 * dice.below(10) as usize;
+            let place = seat as usize % 16 * SEAT_BYTES + 7 + 8 * dice.below(10) as usize;
             let [timeslot, factor, index] =
                 [b.0[place] as u32, b.0[place + 3] as u32, b.0[place + 4] as u32];
             let what = format!("cancel {seat} {timeslot} {factor} {index}");
@@ -102,6 +120,14 @@ fn call(tally: &mut Tally, dice: &mut Dice, b: MqBook) -> MqBook {
             tally.list(b, seat, dice.one_of(&[0, 319, 320, 321, 400]));
             b
         }
+        41..=50 => {
+            tally.summary(b, seat, dice.one_of(&[0, 1, 2, 7, 13, 14, 15, u32::MAX]));
+            b
+        }
+        51..=53 => {
+            tally.summaries(b, seat);
+            b
+        }
         _ => {
             let x = request(dice);
             tally.both(
@@ -109,6 +135,54 @@ fn call(tally: &mut Tally, dice: &mut Dice, b: MqBook) -> MqBook {
                 library::book(b, seat, x),
                 plain::book(b, seat, x),
             )
+        }
+    }
+}
+
+/// Each byte of each seat's timeslots changed alone, to its neighbour, by one bit and to a thrown one: every call
+/// refuses the book.
+fn damaged_slots(tally: &mut Tally, dice: &mut Dice, b: MqBook) {
+    for at in (0..16).flat_map(|seat| {
+        let seat = seat * SEAT_BYTES;
+        seat + SLOTS_AT..seat + SEAT_BYTES
+    }) {
+        let byte = b.0[at];
+        for changed in
+            [byte.wrapping_add(1), byte ^ (1 << dice.below(8)), byte ^ (1 + dice.below(255) as u8)]
+        {
+            let mut c = b;
+            c.0[at] = changed;
+            let seat = dice.below(16);
+            let before = tally.seen[12];
+            match dice.below(6) {
+                0 => {
+                    let x = [dice.below(15), 0, 1, 16, 1, 1, 0, 0];
+                    tally.both("book", library::book(c, seat, x), plain::book(c, seat, x));
+                }
+                1 => {
+                    let t = dice.below(15);
+                    tally.both(
+                        "cancel",
+                        library::cancel(c, seat, t, 16, 1),
+                        plain::cancel(c, seat, t, 16, 1),
+                    );
+                }
+                2 => {
+                    tally.both(
+                        "open",
+                        library::open(c, seat, 0, 1, 0, 0, 0),
+                        plain::open(c, seat, 0, 1, 0, 0, 0),
+                    );
+                }
+                3 => {
+                    tally.both("close", library::close(c, seat), plain::close(c, seat));
+                }
+                4 => tally.list(c, seat, 320),
+                _ => tally.summary(c, seat, dice.below(15)),
+            }
+            same(tally.seen[12], before + 1, || {
+                format!("byte {at}, {byte} changed to {changed}: not refused as broken")
+            });
         }
     }
 }
@@ -134,6 +208,8 @@ pub fn compare() -> u32 {
                 call(&mut tally, &mut dice, damaged);
             }
         }
+        (0..17).for_each(|seat| tally.summaries(b, seat));
+        damaged_slots(&mut tally, &mut dice, b);
     }
     let unseen: Vec<usize> =
         [0, 1, 2, 3, 4, 5, 6, 7, 8, 9, 11, 12, 13, 14, 15, 16, 17, 18, 19, 20, 21]
@@ -154,6 +230,32 @@ fn class_book(long: u32) -> MqBook {
         }
     }
     b
+}
+
+/// Sixteen open seats and so many bookings, one after another to each: at most two codes of a timeslot.
+fn opened_book(bookings: u32) -> MqBook {
+    let mut b = plain::empty();
+    for seat in 0..16 {
+        b = plain::open(b, seat, seat, 1, 0, 0, 0).book;
+    }
+    for j in 0..bookings {
+        let (seat, turn) = if j < 160 { (j % 16, j / 16) } else { (j % 8, j / 8 - 10) };
+        let x = [1 + turn * 5 % 14, 0, 1, 16, 1 + turn / 14, 1, 0, 0];
+        b = plain::book(b, seat, x).book;
+    }
+    b
+}
+
+/// Asking a summary of a book with so many bookings.
+fn summary_line(bookings: u32) -> Line {
+    let b = opened_book(bookings);
+    Line::new(
+        format!("summary, {bookings} bookings"),
+        (0..60).map(|i| (i * 7 % 16, i % 15)).collect(),
+        move |&(seat, t)| library::summary(*black_box(&b), seat, t),
+        move |&(seat, t)| plain::summary(*black_box(&b), seat, t),
+    )
+    .with_limit(&limits::SUMMARY)
 }
 
 /// The booking of a seat's turn: not in list order. Under the count 4 by odd users.
@@ -216,5 +318,7 @@ pub fn lines() -> Vec<Line> {
             move |&seat| library::list(*black_box(&b), seat, black_box(&mut ours)),
             move |&seat| plain::list(*black_box(&b), seat, black_box(&mut theirs)),
         ),
+        summary_line(0),
+        summary_line(239),
     ]
 }

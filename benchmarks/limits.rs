@@ -41,6 +41,7 @@ pub const PAIRS_BY_DIGITS: Limit = Limit {
 };
 pub const PAGE: Limit = Limit { what: "a page", of: PLAIN, times: 1.5 };
 pub const EMPTY_BOOK: Limit = Limit { what: "an empty book over C", of: PLAIN, times: 1.5 };
+pub const SUMMARY: Limit = Limit { what: "asking a summary over C", of: PLAIN, times: 1.5 };
 pub const BOOKING: Limit = Limit { what: "a booking inside the library", of: PLAIN, times: 1.5 };
 
 impl Limit {

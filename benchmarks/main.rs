@@ -71,12 +71,12 @@ fn calls() -> bool {
         }
     }
     table::settle(&mut lines);
-    println!("\nns a call over C, best of {ROUNDS} rounds; the calls of the class book on one with 120 bookings\n");
+    println!("\nns a call over C, best of {ROUNDS} rounds; the calls of the class book on one with 120 bookings where no other number stands\n");
     table::print("call", table::SIDES, &lines[..calls]);
     println!();
     table::print("midamble by the block (***)", ["blocks ns", "one call ns"], &lines[calls..]);
     notes(&lines);
-    let limits: [&Limit; 8] = [
+    let limits: [&Limit; 9] = [
         &limits::MIDAMBLE,
         &limits::MIDAMBLE_BY_DIGITS,
         &limits::BLOCK_BY_DIGITS,
@@ -85,10 +85,11 @@ fn calls() -> bool {
         &limits::PAIRS_BY_DIGITS,
         &limits::PAGE,
         &limits::EMPTY_BOOK,
+        &limits::SUMMARY,
     ];
     let held =
         limits.map(|limit| limit.holds(lines.iter().filter_map(|line| line.ratio_of(limit))));
-    held == [true; 8]
+    held == [true; 9]
 }
 
 /// The table of the growth; whether its limit holds.

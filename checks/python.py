@@ -1,4 +1,4 @@
-"""The Python module beside what it says: users and counts, midambles by the block, rows of floats, threads, copies, pickles, wrong arguments, where the library is found, its version.
+"""The Python module beside what it says: users and counts, midambles by the block, rows of floats, summaries, threads, copies, pickles, wrong arguments, where the library is found, its version.
 
     MQARBSET_LIBRARY=.. PYTHONPATH=python python3 checks/python.py TEMPORARY-FOLDER
 
@@ -95,7 +95,7 @@ def arguments():
         holds(f'read_page refuses bits of {wrong!r} by name', 'bits' in str(raised(TypeError, mqarbset.read_page, 1, 4, wrong)))
     numbers = {
         mqarbset.refusal_text: 1, mqarbset.midamble_chip: 5, mqarbset.midamble: 4, mqarbset.blocks: 5, mqarbset.pair: 6, mqarbset.pairs: 5, mqarbset.parts: 5, mqarbset.beacon: 2, mqarbset.indicator: 4,
-        mqarbset.owner: 3, book.open: 6, book.book: 9, book.cancel: 4, book.close: 1, book.list: 1,
+        mqarbset.owner: 3, book.open: 6, book.book: 9, book.cancel: 4, book.close: 1, book.list: 1, book.summary: 2,
     }
     for call, count in numbers.items():
         names = list(inspect.signature(call).parameters)[:count]
@@ -106,7 +106,8 @@ def arguments():
                 holds(f'{call.__name__} names {name}', str(raised(TypeError, call, *passed)).startswith(f'{name} must be a whole number'))
     for huge in (2 ** 32, 2 ** 64, 10 ** 30, -1, -2 ** 40):
         holds(f'cell {huge} is refused with 1', raised(Refused, mqarbset.midamble, huge, 1, 8, 1).number == 1)
-        holds(f'seat {huge} is refused with 13', raised(Refused, book.close, huge).number == 13)
+        holds(f'seat {huge} is refused with 13', raised(Refused, book.close, huge).number == raised(Refused, book.summary, huge, 14).number == 13)
+        holds(f'timeslot {huge} is refused with 5', raised(Refused, book.summary, 3, huge).number == 5)
         holds(f'number {huge} is refused with 10', raised(Refused, mqarbset.indicator, 1, 4, 1, huge).number == 10)
     holds('a bytearray and a memoryview are bytes', page(1, 4, bytearray(30)) == page(1, 4, memoryview(bytes(30))) == page(1, 4, bytes(30)))
 
@@ -178,6 +179,49 @@ def users():
     holds('4 is no count of type 2', raised(Refused, mqarbset.midamble, 17, 2, 4, 1).number == 3 and raised(Refused, Book().open, 0, 17, 1, 0, 4, 4).number == 3)
 
 
+def summaries():
+    """Which leaves a code covers, first leaf first, the direction and the number; by seat and timeslot, and what is refused."""
+    book = Book()
+    book.open(0, 17, 1, 14)
+    book.open(1, 17, 1, 14)
+    nothing = ((False,) * 16, None, 0)
+    holds('an opened seat covers nothing', all(book.summary(0, timeslot) == nothing for timeslot in range(15)))
+    codes = [(factor, index) for factor in (1, 2, 4, 8, 16) for index in range(1, factor + 1)]
+    for factor, index in codes:
+        for direction in (UP, DOWN) if factor in (1, 16) else (UP,):
+            book.book(0, 3, direction, 2, factor, index, 3)
+            summary, n = book.summary(0, 3), 16 // factor
+            holds('a code covers 16/factor leaves from (index - 1)16/factor', [leaf for leaf in range(16) if summary.leaves[leaf]] == list(range((index - 1) * n, index * n)))
+            holds('a leaf is true or false', len(summary.leaves) == 16 and all(type(leaf) is bool for leaf in summary.leaves))
+            holds('the direction and the number are told', summary.direction == direction and summary.count == 1)
+            holds('another timeslot and another seat are not', book.summary(0, 2) == book.summary(0, 4) == book.summary(1, 3) == nothing)
+            taken = [not any(summary.leaves[(i - 1) * (16 // f):i * (16 // f)]) for f, i in codes]
+            holds('what is free can be booked, and nothing else', taken == [free(book, direction, f, i) for f, i in codes])
+            book.cancel(0, 3, factor, index)
+            holds('cancelled, it is free', book.summary(0, 3) == nothing)
+    book.book(0, 3, UP, 1, 4, 2, 1)
+    book.book(0, 3, UP, 3, 16, 16, 2)
+    holds('two are joined', book.summary(0, 3) == (tuple(leaf in (4, 5, 6, 7, 15) for leaf in range(16)), UP, 2))
+    book.close(0)
+    holds('order of refusals', [raised(Refused, book.summary, *place).number for place in ((0, 14), (16, 14), (16, 15), (0, 15))] == [14, 13, 5, 5])
+    book.open(0, 17, 1, 14)
+    holds('a closed seat opened again covers nothing', all(book.summary(0, timeslot) == nothing for timeslot in range(15)))
+
+
+def free(book, direction, factor, index):
+    """Whether a code can be booked in timeslot 3 beside what is there; where downlink has no such factor, uplink codes below it say so."""
+    if direction == DOWN and factor not in (1, 16):
+        n = 16 // factor
+        return all(free(book, DOWN, 16, leaf + 1) for leaf in range((index - 1) * n, index * n))
+    attempt = copy.copy(book)
+    try:
+        attempt.book(0, 3, direction, 2, factor, index, 3)
+    except Refused as refused:
+        holds('what is not free clashes', refused.number == 17)
+        return False
+    return True
+
+
 def books():
     book, other = Book(), Book()
     holds('two empty books are equal', book == other and not book != other)
@@ -226,6 +270,6 @@ def found():
 
 
 if __name__ == '__main__':
-    for part in (arguments, users, blocks, floats, books, pickles, threads, found):
+    for part in (arguments, users, blocks, floats, summaries, books, pickles, threads, found):
         part()
     print(f'python: {tried} things tried of the module, all as it says')

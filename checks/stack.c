@@ -47,6 +47,7 @@ static void booked(void)
         kept = mq_book_code(&book, 3, 2, MQ_DOWN, 1, 16, i, i, 0, 0);
 }
 static void listed(void) { kept = mq_list(&book, 3, records, MQ_LIST_RECORDS).value; }
+static void summary(void) { kept = mq_summary(&book, 3, 2).leaves; }
 static void cancelled(void) { kept = mq_cancel(&book, 3, 2, 16, 3); }
 static void closed(void) { kept = mq_close(&book, 3); }
 
@@ -55,7 +56,7 @@ static const struct { const char *name; void (*call)(void); } calls[] = {
     {"mq_midamble_chip", midamble_chip}, {"mq_midamble", midamble}, {"mq_block_start", block_start}, {"mq_block", block}, {"mq_pair", pair}, {"mq_pairs", pairs}, {"mq_parts", parts}, {"mq_at", at},
     {"mq_beacon", beacon},
     {"mq_indicator", indicator}, {"mq_owner", owner}, {"mq_page", page}, {"mq_read_page", read_page}, {"mq_empty_book", empty_book},
-    {"mq_open", opened}, {"mq_book_code", booked}, {"mq_list", listed}, {"mq_cancel", cancelled}, {"mq_close", closed},
+    {"mq_open", opened}, {"mq_book_code", booked}, {"mq_list", listed}, {"mq_summary", summary}, {"mq_cancel", cancelled}, {"mq_close", closed},
 };
 
 static ucontext_t here, there;

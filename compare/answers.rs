@@ -1,6 +1,6 @@
 //! What the calls answer: the structs of include/mqarbset.h.
 
-pub const BOOK_BYTES: usize = 5232;
+pub const BOOK_BYTES: usize = 6432;
 
 #[repr(C)]
 #[derive(Clone, Copy, Debug, PartialEq, Eq)]
@@ -117,4 +117,14 @@ pub struct MqBook(pub [u8; BOOK_BYTES]);
 pub struct MqBookAnswer {
     pub refusal: u32,
     pub book: MqBook,
+}
+
+/// What a seat's bookings say of a timeslot.
+#[repr(C)]
+#[derive(Clone, Copy, Debug, Default, PartialEq, Eq)]
+pub struct MqSummary {
+    pub refusal: u32,
+    pub leaves: u32,
+    pub direction: u32,
+    pub count: u32,
 }

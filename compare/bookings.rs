@@ -4,9 +4,11 @@ use crate::beside::{
     direction_and_factor, direction_number, expect, expect_memory, lent, number, written, Beside,
     Call,
 };
-use library::{MqBook, MqBookAnswer};
+use library::{MqBook, MqBookAnswer, MqSummary};
 use second::book::{Record, Settings};
 use second::lesson::NO_BOOKING;
+use second::refusals::Answer;
+use second::summaries::Summary;
 
 /// A booking: timeslot, direction, burst type, factor, index, user, TFCI bits, TPC bits.
 fn record(numbers: [u32; 8]) -> Record {
@@ -22,20 +24,35 @@ pub fn numbers_of(record: &Record) -> [u32; 8] {
     [timeslot, direction, burst_type, factor, index, user, tfci_bits, tpc_bits]
 }
 
+/// A summary as the library hands it over: leaf l is bit 2^l, a direction is 0 up, 1 down, 2 none.
+fn summarised(wanted: &Answer<Summary>) -> MqSummary {
+    match wanted {
+        Ok(summary) => MqSummary {
+            refusal: 0,
+            leaves: (0..16).map(|leaf| u32::from(summary.leaves[leaf]) << leaf).sum(),
+            direction: summary.direction.map_or(2, direction_number),
+            count: summary.count as u32,
+        },
+        Err(refusal) => MqSummary { refusal: *refusal, ..MqSummary::default() },
+    }
+}
+
 impl Beside<'_> {
-    /// A refused call hands the same bytes back.
+    /// A refused call hands the same bytes back. Then the summary of the seat and timeslot is asked for.
     fn on_book(
         &mut self,
         call: Call,
         before: &MqBook,
         answer: MqBookAnswer,
         wanted: u32,
+        (seat, timeslot): (u32, u32),
     ) -> MqBook {
         expect(call, "refusal", answer.refusal, wanted);
         if wanted != 0 && answer.book != *before {
             expect(call, "book", "changed", "unchanged, since it is refused");
         }
         self.count(wanted);
+        self.summary(answer.book, seat, timeslot);
         answer.book
     }
 
@@ -44,26 +61,33 @@ impl Beside<'_> {
         let settings = Settings { cell, case, k, long_count, short_count };
         let wanted = number(&self.model.open(seat, settings));
         let answer = library::open(b, seat, cell, case, k, long_count, short_count);
-        self.on_book(("open", &numbers), &b, answer, wanted)
+        self.on_book(("open", &numbers), &b, answer, wanted, (seat, k))
     }
 
     /// The booking's numbers as for `record`: its direction may be any.
     pub fn book(&mut self, b: MqBook, seat: u32, numbers: [u32; 8]) -> MqBook {
         let wanted = number(&self.model.book(seat, record(numbers)));
         let answer = library::book(b, seat, numbers);
-        self.on_book((&format!("book {seat}"), &numbers), &b, answer, wanted)
+        self.on_book((&format!("book {seat}"), &numbers), &b, answer, wanted, (seat, numbers[0]))
     }
 
     pub fn cancel(&mut self, b: MqBook, numbers: [u32; 4]) -> MqBook {
         let [seat, timeslot, factor, index] = numbers;
         let wanted = number(&self.model.cancel(seat, timeslot, factor, index));
         let answer = library::cancel(b, seat, timeslot, factor, index);
-        self.on_book(("cancel", &numbers), &b, answer, wanted)
+        self.on_book(("cancel", &numbers), &b, answer, wanted, (seat, timeslot))
     }
 
     pub fn close(&mut self, b: MqBook, seat: u32) -> MqBook {
         let wanted = number(&self.model.close(seat));
-        self.on_book(("close", &[seat]), &b, library::close(b, seat), wanted)
+        self.on_book(("close", &[seat]), &b, library::close(b, seat), wanted, (seat, 0))
+    }
+
+    pub fn summary(&mut self, b: MqBook, seat: u32, timeslot: u32) {
+        let wanted = self.model.summary(seat, timeslot);
+        let answer = library::summary(b, seat, timeslot);
+        expect(("summary", &[seat, timeslot]), "answer", answer, summarised(&wanted));
+        self.count(number(&wanted));
     }
 
     pub fn list(&mut self, b: MqBook, seat: u32, room: usize) {

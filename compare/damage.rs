@@ -3,10 +3,12 @@
 use library::{MqBook, BOOK_BYTES};
 use second::dice::Dice;
 
-const SEAT_BYTES: usize = 327;
+const SEAT_BYTES: usize = 402;
 const SETTINGS_BYTES: usize = 7;
 const BOOKING_BYTES: usize = 8;
 const PLACES: usize = 40;
+const SLOT_BYTES: usize = 5;
+const TIMESLOTS: usize = 15;
 
 /// Where these stand in a seat, whose first byte says whether it is open.
 const LONG_COUNT: usize = 4;
@@ -26,6 +28,16 @@ fn booking_place(seat: usize, place: usize) -> usize {
     seat_place(seat) + SETTINGS_BYTES + BOOKING_BYTES * place
 }
 
+/// Where the summary of a timeslot stands, behind the seat's bookings.
+fn slot_place(seat: usize, timeslot: usize) -> usize {
+    booking_place(seat, PLACES) + SLOT_BYTES * timeslot
+}
+
+/// Where the bytes of all summaries stand.
+pub fn summary_bytes() -> impl Iterator<Item = usize> {
+    (0..16).flat_map(|seat| slot_place(seat, 0)..slot_place(seat, TIMESLOTS))
+}
+
 /// A copy of a book that surely breaks its conditions.
 pub fn broken(dice: &mut Dice, whole: &MqBook) -> MqBook {
     let mut b = *whole;
@@ -36,7 +48,7 @@ pub fn broken(dice: &mut Dice, whole: &MqBook) -> MqBook {
     let last = booking_place(seat, PLACES - 1);
     let timeslot = |place| b.0[booking_place(seat, place)];
     let together = (1..held).find(|&place| timeslot(place) == timeslot(place - 1)).unwrap_or(held);
-    match dice.below(13) {
+    match dice.below(15) {
         0 => b.0 = [255; BOOK_BYTES],
         // neither open nor closed
         1 => b.0[start] = 2 + dice.below(254) as u8,
@@ -73,6 +85,20 @@ pub fn broken(dice: &mut Dice, whole: &MqBook) -> MqBook {
         12 if held >= 1 => {
             b.0[start + LONG_COUNT] = 4;
             b.0[first + USER] = dice.pick(&[2, 4, 6, 8, 9, 11, 16]);
+        }
+        // a summary that says something else: another byte, or what another timeslot says where that differs
+        13 => {
+            let place = slot_place(seat, dice.place(TIMESLOTS)) + dice.place(SLOT_BYTES);
+            b.0[place] ^= 1 + dice.below(255) as u8;
+        }
+        14 => {
+            let (from, to) = (dice.place(TIMESLOTS), dice.place(TIMESLOTS));
+            let from = slot_place(seat, from);
+            let to = slot_place(seat, to);
+            b.0.copy_within(from..from + SLOT_BYTES, to);
+            if b.0 == whole.0 {
+                b.0[to] ^= 1;
+            }
         }
         // no k
         _ => b.0[start + 3] = 15 + dice.below(241) as u8,

@@ -103,6 +103,7 @@ mod c {
         ) -> MqBookAnswer;
         pub fn mq_close_value(b: MqBook, seat: u32) -> MqBookAnswer;
         pub fn mq_list_bytes(b: MqBook, seat: u32, out: *mut u8, length: usize) -> MqAnswer;
+        pub fn mq_summary_value(b: MqBook, seat: u32, timeslot: u32) -> MqSummary;
     }
 }
 
@@ -229,4 +230,9 @@ pub fn close(b: MqBook, seat: u32) -> MqBookAnswer {
 #[inline]
 pub fn list(b: MqBook, seat: u32, out: &mut [u8]) -> MqAnswer {
     unsafe { c::mq_list_bytes(b, seat, out.as_mut_ptr(), out.len()) }
+}
+
+#[inline]
+pub fn summary(b: MqBook, seat: u32, timeslot: u32) -> MqSummary {
+    unsafe { c::mq_summary_value(b, seat, timeslot) }
 }

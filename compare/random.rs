@@ -1,6 +1,7 @@
 //! Random lessons (`second random`) over C: reply, book and every lent byte, as the model has them. Lent memory has
 //! every length around the needed one. Now and then the same call is made on a damaged copy of the book, and with a
-//! direction that is neither. After every few calls all sixteen plans are listed on both sides.
+//! direction that is neither. After every call of the class book the summary of its seat and timeslot is compared, and
+//! after every few calls all sixteen plans are listed and summed up on both sides.
 
 use crate::beside::{direction_number, Beside, Tally};
 use crate::bookings::numbers_of;
@@ -18,7 +19,7 @@ const SEEDS: u64 = 21;
 const LINES: u64 = 12000;
 
 /// The calls that change or read the class book.
-const BOOK_CALLS: [&str; 5] = ["open", "book", "cancel", "close", "list"];
+const BOOK_CALLS: [&str; 6] = ["open", "book", "cancel", "close", "list", "summary"];
 
 struct Lesson<'a> {
     both: Beside<'a>,
@@ -69,11 +70,15 @@ impl Lesson<'_> {
         self.both.book = self.book_call(call, self.both.book);
     }
 
-    /// All sixteen plans, and a seat that is none.
+    /// All sixteen plans and what they say of every fourth timeslot, and a seat that is none.
     fn plans(&mut self) {
         for seat in 0..=16 {
             let room = self.around(320);
             self.both.list(self.both.book, seat, room);
+            let first = self.dice.below(4) as u32;
+            for timeslot in (first..=15).step_by(4) {
+                self.both.summary(self.both.book, seat, timeslot);
+            }
         }
     }
 
@@ -99,6 +104,11 @@ impl Lesson<'_> {
             "close" => {
                 let [seat] = call.numbers();
                 self.both.close(b, seat)
+            }
+            "summary" => {
+                let [seat, timeslot] = call.numbers();
+                self.both.summary(b, seat, timeslot);
+                b
             }
             _ => {
                 let [seat] = call.numbers();

@@ -136,6 +136,22 @@ static size_t keep(const mq_book *book, unsigned seat, const char *opening, char
     return listed.value + 1;
 }
 
+/* Which codes a seat has free in a timeslot: a digit for each leaf, leaf 0 first. */
+static void summary(const mq_book *book, uint32_t seat, uint32_t timeslot)
+{
+    static const char *const ways[] = {"up", "down", "none"};
+    mq_summary_answer s = mq_summary(book, seat, timeslot);
+    uint32_t leaf;
+    if (s.refusal != 0) {
+        refused("summary", s.refusal);
+        return;
+    }
+    printf("seat %u, timeslot %u: ", (unsigned)seat, (unsigned)timeslot);
+    for (leaf = 0; leaf < MQ_LEAVES; leaf++)
+        putchar(s.leaves >> leaf & 1 ? '1' : '0');
+    printf(" %s %u\n", ways[s.direction], (unsigned)s.count);
+}
+
 /* Makes the call of such a line. Returns 1 where it is one and is not refused. */
 static int make_again(mq_book *book, const char *line)
 {
@@ -176,6 +192,8 @@ static void class_book(void)
     refusal = mq_book_code(&book, 3, 0, MQ_DOWN, 1, 16, 1, 1, 0, 0);
     printf("book (16, 1) for user 1 in timeslot 0: %u\n", (unsigned)refusal);
     list(&book, 3);
+    summary(&book, 3, 2);
+    summary(&book, 3, 3);
     keep_and_make_again(&book);
     kept = book;
     refused("book (1, 1) in timeslot 2", mq_book_code(&book, 3, 2, MQ_DOWN, 1, 1, 1, 5, 0, 0));
@@ -184,6 +202,8 @@ static void class_book(void)
     refusal = mq_cancel(&book, 3, 2, 16, 3);
     printf("cancel (16, 3) in timeslot 2: %u\n", (unsigned)refusal);
     list(&book, 3);
+    summary(&book, 3, 2);
+    summary(&book, 3, MQ_TIMESLOTS);
     refusal = mq_close(&book, 3);
     printf("close seat 3: %u\n", (unsigned)refusal);
     list(&book, 3);

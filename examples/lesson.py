@@ -83,6 +83,14 @@ def class_book():
     for booking in book.list(3):
         print(f'  {booking}')
 
+    # Which codes are free in timeslot 2: (16, 3) is booked, and so (2, 1), which covers its leaf, is not.
+    summary = book.summary(3, 2)
+    print(f'{summary.count} in timeslot 2, down: {summary.direction == DOWN}, leaves {"".join(str(int(leaf)) for leaf in summary.leaves)}')
+    for factor, index in ((16, 3), (16, 4), (2, 1), (2, 2)):
+        n = 16 // factor
+        print(f'  code ({factor}, {index}) is free: {not any(summary.leaves[(index - 1) * n:index * n])}')
+    tried('a summary of timeslot 15', book.summary, 3, 15)
+
     # What is kept of the plan; the same lines are a lesson for ./bench.
     lines = kept(book, 3, 0, 1, 0, 16, 6)
     for line in lines:

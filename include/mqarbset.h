@@ -38,10 +38,10 @@ extern "C" {
 /* ---- version ---------------------------------------------------------------------------------------------------------------------------- */
 
 #define MQ_VERSION_MAJOR 0
-#define MQ_VERSION_MINOR 6
+#define MQ_VERSION_MINOR 7
 #define MQ_VERSION_PATCH 0
-#define MQ_VERSION 600          /* major times 10000, minor times 100, patch */
-#define MQ_ABI 1                /* libmqarbset.so.MQ_ABI; it changes when the book's size or a call that is there does; a new call alone does not move it */
+#define MQ_VERSION 700          /* major times 10000, minor times 100, patch */
+#define MQ_ABI 2                /* libmqarbset.so.MQ_ABI; it changes when the book's size or a call that is there does; a new call alone does not move it */
 
 /* The library that runs, beside the header that a program was compiled with: MQ_VERSION there, and the bytes of a book there. A program that is
  * linked with another mq_book_bytes() than MQ_BOOK_BYTES must not hand over a book. Stack: 1 KB. */
@@ -52,6 +52,7 @@ MQ_MUST_USE uint32_t mq_book_bytes(void);
 
 #define MQ_CELLS 128            /* cell parameters 0 to 127 */
 #define MQ_TIMESLOTS 15         /* timeslots 0 to 14 */
+#define MQ_LEAVES 16            /* leaves of a timeslot, 0 to 15: code (factor, index) covers 16/factor of them, from (index - 1)16/factor on */
 #define MQ_CHIPS 2560           /* chips of a timeslot, 0 to 2559 */
 #define MQ_LONG_MIDAMBLE 512    /* chips of a midamble, types 1 and 3 */
 #define MQ_SHORT_MIDAMBLE 256   /* and type 2 */
@@ -68,12 +69,13 @@ MQ_MUST_USE uint32_t mq_book_bytes(void);
 #define MQ_COMMON_LIMIT 80      /* what all seats together may hold beyond their first tens */
 #define MQ_LIST_RECORDS 40      /* records to lend to a list, however few it writes */
 #define MQ_RECORD_BYTES 8       /* bytes of a record */
-#define MQ_BOOK_BYTES 5232      /* bytes of a class book */
+#define MQ_BOOK_BYTES 6432      /* bytes of a class book */
 #define MQ_REFUSAL_TEXT_BYTES 256   /* room for the words of any refusal, with a NUL behind them */
 
 /* Direction. */
 #define MQ_UP 0
 #define MQ_DOWN 1
+#define MQ_NO_DIRECTION 2       /* in a summary only: there is no booking */
 
 /* The parts of a timeslot, in time order. */
 enum mq_part {
@@ -350,7 +352,15 @@ typedef struct mq_book_answer {
     mq_book book;
 } mq_book_answer;
 
-/* An empty book. Stack: 6 KB. */
+/* What a seat's bookings in a timeslot cover. Refused, all is 0. */
+typedef struct mq_summary_answer {
+    uint32_t refusal;
+    uint32_t leaves;            /* bit l, of value 2 to the power l, is set where a booking covers leaf l, 0 to 15 */
+    uint32_t direction;         /* MQ_UP or MQ_DOWN, of all its bookings; MQ_NO_DIRECTION where there are none */
+    uint32_t count;             /* how many bookings */
+} mq_summary_answer;
+
+/* An empty book. Stack: 11 KB. */
 MQ_MUST_USE mq_book mq_empty_book(void);
 
 /* The calls by value, as the library has them; a C program rather uses those below, which say how much stack they take. */
@@ -360,6 +370,7 @@ MQ_MUST_USE mq_book_answer mq_book_value(mq_book book, uint32_t seat, uint32_t t
 MQ_MUST_USE mq_book_answer mq_cancel_value(mq_book book, uint32_t seat, uint32_t timeslot, uint32_t factor, uint32_t index);
 MQ_MUST_USE mq_book_answer mq_close_value(mq_book book, uint32_t seat);
 MQ_MUST_USE mq_answer mq_list_bytes(mq_book book, uint32_t seat, unsigned char *out, size_t length);
+MQ_MUST_USE mq_summary_answer mq_summary_value(mq_book book, uint32_t seat, uint32_t timeslot);
 
 /* The caller's book as it is handed over; for a NULL one that breaks its conditions. Not for callers. */
 static inline mq_book mq_held(const mq_book *book)
@@ -388,7 +399,7 @@ static inline uint32_t mq_taken(mq_book *book, const mq_book_answer *answer)
  *   sync, k      synchronisation case and its k, as for mq_beacon
  *   long_count   midambles of types 1 and 3: 4, 8, 16, or 0 for 16
  *   short_count  midambles of type 2: 3, 6, or 0 for 6
- * Refusals: 1, 3, 9, 12, 13, 15. Stack: 48 KB. */
+ * Refusals: 1, 3, 9, 12, 13, 15. Stack: 60 KB. */
 MQ_MUST_USE static inline uint32_t mq_open(mq_book *book, uint32_t seat, uint32_t cell, uint32_t sync, uint32_t k, uint32_t long_count, uint32_t short_count)
 {
     mq_book_answer answer = mq_open_value(mq_held(book), seat, cell, sync, k, long_count, short_count);
@@ -406,7 +417,7 @@ MQ_MUST_USE static inline uint32_t mq_open(mq_book *book, uint32_t seat, uint32_
  *   tfci, tpc    TFCI and TPC bits, as for mq_parts
  * In one timeslot two bookings of a seat clash (17) if their directions differ, or if exactly one of them is type 2 (types 1 and 3 may lie beside
  * each other), or if their codes share a leaf.
- * Refusals: 2, 4 to 8, 12 to 14, 16 to 20. Stack: 48 KB. */
+ * Refusals: 2, 4 to 8, 12 to 14, 16 to 20. Stack: 60 KB. */
 MQ_MUST_USE static inline uint32_t mq_book_code(mq_book *book, uint32_t seat, uint32_t timeslot, uint32_t direction, uint32_t burst, uint32_t factor, uint32_t index,
                                                 uint32_t user, uint32_t tfci, uint32_t tpc)
 {
@@ -415,14 +426,14 @@ MQ_MUST_USE static inline uint32_t mq_book_code(mq_book *book, uint32_t seat, ui
 }
 
 /* Cancels the booking of a seat that is named by timeslot and code; the numbers as for mq_book_code.
- * Refusals: 5, 6, 12, 13, 14, 21. Stack: 48 KB. */
+ * Refusals: 5, 6, 12, 13, 14, 21. Stack: 60 KB. */
 MQ_MUST_USE static inline uint32_t mq_cancel(mq_book *book, uint32_t seat, uint32_t timeslot, uint32_t factor, uint32_t index)
 {
     mq_book_answer answer = mq_cancel_value(mq_held(book), seat, timeslot, factor, index);
     return mq_taken(book, &answer);
 }
 
-/* Closes a seat: its bookings and its settings go. Refusals: 12, 13, 14. Stack: 48 KB. */
+/* Closes a seat: its bookings and its settings go. Refusals: 12, 13, 14. Stack: 60 KB. */
 MQ_MUST_USE static inline uint32_t mq_close(mq_book *book, uint32_t seat)
 {
     mq_book_answer answer = mq_close_value(mq_held(book), seat);
@@ -432,11 +443,22 @@ MQ_MUST_USE static inline uint32_t mq_close(mq_book *book, uint32_t seat)
 /* Lists a seat's bookings, by timeslot, then by the first leaf of their codes. The book stays as it is.
  *   records      at least MQ_LIST_RECORDS records; those behind the bookings stay as they were
  *   count        how many records are lent
- * Value: how many bookings were written. Refusals: 11, 12, 13, 14. Stack: 33 KB. */
+ * Value: how many bookings were written. Refusals: 11, 12, 13, 14. Stack: 40 KB. */
 MQ_MUST_USE static inline mq_answer mq_list(const mq_book *book, uint32_t seat, mq_booking *records, size_t count)
 {
     size_t lent = count < MQ_LIST_RECORDS ? count : MQ_LIST_RECORDS;
     return mq_list_bytes(mq_held(book), seat, (unsigned char *)records, lent * MQ_RECORD_BYTES);
+}
+
+/* Which codes of a timeslot a seat has free. The book stays as it is, and no other seat is looked at.
+ *   seat         0 to 15, open
+ *   timeslot     0 to 14
+ * Code (factor, index) is free where none of its leaves is covered: with n = MQ_LEAVES / factor,
+ * (leaves >> ((index - 1) * n) & ((1u << n) - 1)) == 0.
+ * Refusals: 5, 12, 13, 14. Stack: 40 KB. */
+MQ_MUST_USE static inline mq_summary_answer mq_summary(const mq_book *book, uint32_t seat, uint32_t timeslot)
+{
+    return mq_summary_value(mq_held(book), seat, timeslot);
 }
 
 #ifdef __cplusplus

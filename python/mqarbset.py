@@ -21,16 +21,17 @@ import threading
 from typing import Dict, List, NamedTuple, Optional, Tuple
 
 __all__ = [
-    'UP', 'DOWN', 'OFF', 'ON', 'TORN', 'Part', 'Span', 'Parts', 'Place', 'Indicator', 'Booking', 'Book', 'Blocks', 'BlockPlace',
+    'UP', 'DOWN', 'OFF', 'ON', 'TORN', 'Part', 'Span', 'Parts', 'Place', 'Indicator', 'Booking', 'Summary', 'Book', 'Blocks', 'BlockPlace',
     'Refused', 'refusal_text', 'midamble_chip', 'midamble', 'blocks', 'pair', 'pairs', 'parts', 'at', 'beacon', 'indicator', 'owner', 'page', 'read_page',
 ]
-__version__ = '0.6.0'
+__version__ = '0.7.0'
 
 UP, DOWN = 0, 1
 OFF, ON, TORN = 0, 1, 2
 
 _LONG_MIDAMBLE, _LONG_PAIRS, _PAGE_BYTES, _INDICATORS = 512, 1024, 276, 68
-_SEATS, _LIST_RECORDS, _RECORD_BYTES, _BOOK_BYTES, _TEXT_BYTES = 16, 40, 8, 5232, 255
+_SEATS, _LIST_RECORDS, _RECORD_BYTES, _BOOK_BYTES, _TEXT_BYTES = 16, 40, 8, 6432, 255
+_LEAVES = 16
 _LARGEST = 2 ** 32 - 1
 _INSTALLED = None  # install.sh writes the library's path here
 
@@ -112,6 +113,18 @@ class Booking(NamedTuple):
     tpc: int
 
 
+class Summary(NamedTuple):
+    """What a seat's bookings cover in a timeslot: of each of the 16 leaves, leaf 0 first, whether a booking
+    covers it; the direction of the bookings, UP or DOWN, None where there are none; and how many they are.
+
+    Code (factor, index) is free where none of its leaves is covered: not any(leaves[(index - 1) * n:index * n])
+    with n = 16 // factor.
+    """
+    leaves: Tuple[bool, ...]
+    direction: Optional[int]
+    count: int
+
+
 # ---- the library
 
 def _struct(name, *fields):
@@ -135,6 +148,7 @@ _Place = _numbers('_Place', 'refusal', 'part', 'number')
 _Beacons = _numbers('_Beacons', 'refusal', 'count', 'first', 'second')
 _Indicator = _numbers('_Indicator', 'refusal', 'frame', 'q', 'first', 'second', 'length')
 _Owner = _numbers('_Owner', 'refusal', 'reserved', 'q')
+_Summary = _numbers('_Summary', 'refusal', 'leaves', 'direction', 'count')
 
 # What each function takes and gives: u a number, m lent memory (a pointer and its length), f a lent row of floats
 # (likewise, its length in floats), b a book, p a place in a midamble.
@@ -161,6 +175,7 @@ _CALLS = {
     'mq_cancel_value': ('buuuu', _BookAnswer),
     'mq_close_value': ('bu', _BookAnswer),
     'mq_list_bytes': ('bum', _Answer),
+    'mq_summary_value': ('buu', _Summary),
 }
 _TYPES = {'u': [ctypes.c_uint32], 'm': [ctypes.c_char_p, ctypes.c_size_t],
           'f': [ctypes.POINTER(ctypes.c_float), ctypes.c_size_t], 'b': [_Book], 'p': [_BlockPlace]}
@@ -493,3 +508,10 @@ class Book:
         Refused with 12, 13, 14."""
         records = _written('mq_list_bytes', _LIST_RECORDS * _RECORD_BYTES, self._held(), size=_RECORD_BYTES, seat=seat)
         return [Booking(*records[i:i + _RECORD_BYTES]) for i in range(0, len(records), _RECORD_BYTES)]
+
+    def summary(self, seat: int, timeslot: int) -> Summary:
+        """Which codes of a timeslot a seat has free; seat 0 to 15, open; timeslot 0 to 14. No other seat is
+        looked at. Refused with 5, 12, 13, 14."""
+        answer = _call('mq_summary_value', self._held(), seat=seat, timeslot=timeslot)
+        leaves = tuple(bool(answer.leaves >> leaf & 1) for leaf in range(_LEAVES))
+        return Summary(leaves, answer.direction if answer.count else None, answer.count)

@@ -24,7 +24,12 @@ const OWN_ROOM: usize = 10;
 const COMMON_ROOM: usize = 80;
 
 /// The leaves of a timeslot: code (Q, k) covers 16/Q of them.
-const LEAVES: u32 = 16;
+pub const LEAVES: u32 = 16;
+
+/// Factor and index of the 31 codes (Q, k).
+pub fn codes() -> impl Iterator<Item = (u32, u32)> {
+    [1, 2, 4, 8, 16].into_iter().flat_map(|factor| (1..=factor).map(move |index| (factor, index)))
+}
 
 /// A booking, and a record of a list.
 #[derive(Clone, Copy, PartialEq)]
@@ -58,7 +63,7 @@ impl Record {
     }
 
     /// "Code (Q, k) covers the 16/Q leaves from (k - 1)16/Q." For codes that pass refusal 6.
-    fn leaves(&self) -> std::ops::Range<u32> {
+    pub fn leaves(&self) -> std::ops::Range<u32> {
         let covered = LEAVES / self.factor;
         let first = (self.index - 1) * covered;
         first..first + covered
@@ -175,7 +180,7 @@ fn refuse_bad_user(burst_type: u32, user: u32) -> Answer<()> {
 }
 
 /// Refusal 5: timeslot above 14.
-fn refuse_bad_timeslot(timeslot: u32) -> Answer<()> {
+pub fn refuse_bad_timeslot(timeslot: u32) -> Answer<()> {
     refuse_if(timeslot > LAST_TIMESLOT, 5)
 }
 

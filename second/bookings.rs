@@ -1,4 +1,4 @@
-//! Random bookings and cancels, for random lessons.
+//! Random bookings, cancels and timeslots to be summed up, for random lessons.
 
 use crate::book::{Record, Settings, MOST_OF_A_SEAT};
 use crate::dice::Dice;
@@ -130,5 +130,14 @@ pub fn to_cancel(dice: &mut Dice, held: &[Record]) -> [u32; 3] {
         [timeslot, factor * 2, index * 2 - 1]
     } else {
         [timeslot, factor, index]
+    }
+}
+
+/// Timeslot of a summary: often one in which the seat holds a booking, else any; now and then one that is none.
+pub fn to_sum_up(dice: &mut Dice, held: &[Record]) -> u32 {
+    match dice.below(20) {
+        0 => dice.pick(&[LAST_TIMESLOT + 1, LAST_TIMESLOT + 2, u32::MAX]),
+        1..=12 if !held.is_empty() => dice.pick(held).timeslot,
+        _ => dice.between(0, LAST_TIMESLOT),
     }
 }

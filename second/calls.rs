@@ -10,7 +10,7 @@ pub struct Form {
 
 /// The table. Reading a line goes by its first column: after the call's own word, `up|down` stands for a direction,
 /// SETTINGS and BITS for words of the digits 0 and 1, and every other word for a number.
-pub const FORMS: [Form; 18] = [
+pub const FORMS: [Form; 19] = [
     Form { call: "open SEAT CELL CASE K LONG SHORT", reply: "ok" },
     Form { call: "book SEAT SLOT up|down TYPE FACTOR INDEX USER TFCI TPC", reply: "ok" },
     Form { call: "cancel SEAT SLOT FACTOR INDEX", reply: "ok" },
@@ -18,6 +18,10 @@ pub const FORMS: [Form; 18] = [
     Form {
         call: "list SEAT",
         reply: "list N, then N lines SLOT up|down TYPE FACTOR INDEX USER TFCI TPC",
+    },
+    Form {
+        call: "summary SEAT SLOT",
+        reply: "summary LEAVES up|down|none N, LEAVES being 16 digits with no blanks between",
     },
     Form { call: "chip CELL TYPE COUNT USER I", reply: "chip P" },
     Form {

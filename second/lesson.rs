@@ -114,6 +114,7 @@ impl Bench<'_> {
             "cancel" => self.cancel(call),
             "close" => self.close(call),
             "list" => self.list(call),
+            "summary" => self.summary(call),
             "chip" => self.chip(call),
             "midamble" => self.midamble(call),
             "block" => self.block(call),
@@ -172,6 +173,12 @@ impl Bench<'_> {
             reply.push_str(&record.words());
         }
         Ok(reply)
+    }
+
+    fn summary(&self, call: &Call) -> Answer<String> {
+        let [seat, timeslot] = call.numbers();
+        let summary = self.book.summary(seat, timeslot)?;
+        Ok(format!("summary {}", summary.words()))
     }
 
     fn chip(&self, call: &Call) -> Answer<String> {

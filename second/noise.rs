@@ -8,7 +8,7 @@ use crate::scribbles::stretched;
 use std::io::{self, Write};
 
 /// Bytes that mean something in a lesson.
-const ALPHABET: &[u8] = b"  \t\r\n##0123456789abcdefiklmnoprstuw.,+-|\0";
+const ALPHABET: &[u8] = b"  \t\r\n##0123456789abcdefiklmnoprstuwy.,+-|\0";
 
 /// Prints that many bytes. The seed decides whether the last one is a LF or none.
 pub fn print(out: &mut dyn Write, seed: u64, bytes: u64, rows: &Rows) -> io::Result<()> {

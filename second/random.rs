@@ -4,8 +4,8 @@
 //! aim: at bookings that are accepted, and at those that only lack room.
 
 use crate::book::{Record, Settings, SEATS};
-use crate::bookings::{aimed, blind, to_cancel, with_any_user};
-use crate::calls;
+use crate::bookings::{aimed, blind, to_cancel, to_sum_up, with_any_user};
+use crate::calls::{self, Call};
 use crate::dice::Dice;
 use crate::lesson::{Bench, LONGEST_LINE};
 use crate::moods::{Manners, Mood, LASTING_MOODS};
@@ -41,6 +41,30 @@ enum Kind {
     Cancel,
     Close,
     List,
+    Summary,
+}
+
+/// The seat of a call that changes the book, and its timeslot, if it has one; nothing for another call.
+fn seat_and_timeslot(call: &Call) -> Option<(u32, Option<u32>)> {
+    match call.name {
+        "open" => {
+            let [seat, _, _, _, _, _] = call.numbers();
+            Some((seat, None))
+        }
+        "book" => {
+            let [seat, timeslot, _, _, _, _, _, _] = call.numbers();
+            Some((seat, Some(timeslot)))
+        }
+        "cancel" => {
+            let [seat, timeslot, _, _] = call.numbers();
+            Some((seat, Some(timeslot)))
+        }
+        "close" => {
+            let [seat] = call.numbers();
+            Some((seat, None))
+        }
+        _ => None,
+    }
 }
 
 /// The writer of a random lesson.
@@ -82,16 +106,23 @@ impl Writer<'_> {
         self.some_line()
     }
 
-    /// Makes the call of a line on the writer's own book, if it is one that changes it.
+    /// Makes the call of a line on the writer's own book, if it is one that changes it. After one in three of such
+    /// calls, accepted or refused, the next line is a summary of its seat and timeslot.
     pub fn follow(&mut self, line: &[u8]) {
         if line.len() > LONGEST_LINE {
             return;
         }
-        if let Ok(Some(call)) = calls::read(line) {
-            if ["open", "book", "cancel", "close"].contains(&call.name) {
-                // A refusal leaves the book as it was, so there is nothing to follow.
-                let _ = self.bench.answer(&call);
-            }
+        let Ok(Some(call)) = calls::read(line) else {
+            return;
+        };
+        let Some((seat, timeslot)) = seat_and_timeslot(&call) else {
+            return;
+        };
+        // A refusal leaves the book as it was, so there is nothing to follow.
+        let _ = self.bench.answer(&call);
+        if self.dice.one_in(3) {
+            let timeslot = timeslot.unwrap_or_else(|| to_sum_up(&mut self.dice, &[]));
+            self.pending.push(format!("summary {seat} {timeslot}"));
         }
     }
 
@@ -178,6 +209,7 @@ impl Writer<'_> {
             (10 + cancel_weight, Kind::Cancel),
             (self.manners.close_weight, Kind::Close),
             (30, Kind::List),
+            (60, Kind::Summary),
         ]);
         if matches!(kind, Kind::Book) && !self.dice.percent(self.manners.blind) {
             self.aimed_booking(seat, settings, &held)
@@ -193,6 +225,7 @@ impl Writer<'_> {
             (3, Kind::Cancel),
             (3, Kind::Close),
             (4, Kind::List),
+            (6, Kind::Summary),
         ]);
         self.call(kind, seat, &[0], &[])
     }
@@ -211,7 +244,19 @@ impl Writer<'_> {
             }
             Kind::Close => format!("close {seat}"),
             Kind::List => format!("list {seat}"),
+            Kind::Summary => self.summary(seat, held),
         }
+    }
+
+    /// A summary, mostly of this seat; now and then of any, or of one that is none.
+    fn summary(&mut self, seat: u32, held: &[Record]) -> String {
+        let asked = match self.dice.below(20) {
+            0 => self.dice.pick(&[SEATS, SEATS + 1, u32::MAX]),
+            1..=4 => self.dice.below(SEATS),
+            _ => seat,
+        };
+        let timeslot = to_sum_up(&mut self.dice, held);
+        format!("summary {asked} {timeslot}")
     }
 
     fn opening(&mut self, seat: u32) -> String {

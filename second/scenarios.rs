@@ -1,5 +1,7 @@
 //! The scenarios of the class book in `second every`: calls only, no answers.
 
+mod summaries;
+
 use crate::book::{Book, Record, Settings, SEATS};
 use crate::every::{Put, LARGEST};
 use crate::timeslots::Direction;
@@ -14,7 +16,8 @@ pub fn all(put: Put) -> io::Result<()> {
     kept_bookings(put)?;
     burst_types(put)?;
     types_1_and_3(put)?;
-    users(put)
+    users(put)?;
+    summaries::all(put)
 }
 
 /// Seat 3 of "Figures to check".

@@ -33,7 +33,7 @@ const NO_NUMBERS: [&str; 16] = [
 const NO_DIRECTIONS: [&str; 7] = ["Up", "DOWN", "left", "u", "downs", "1", "up|down"];
 
 /// Lines that begin with no call's word.
-const NO_CALLS: [&str; 18] = [
+const NO_CALLS: [&str; 21] = [
     "opens 3 0 1 0 0 0",
     "Open 3 0 1 0 0 0",
     "BOOK 3 2 down 1 16 3 4 0 0",
@@ -52,6 +52,9 @@ const NO_CALLS: [&str; 18] = [
     "Pairs 0 1 16 8 5",
     "blocks 0 1 16 8 0 64",
     "Block 0 1 16 8 0 64",
+    "summar 3 2",
+    "summarys 3 2",
+    "Summary 3 2",
 ];
 
 /// A number in place of the right one.

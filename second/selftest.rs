@@ -1,7 +1,9 @@
 //! Document 01, "Figures to check", and the few facts that the chapters state beside their rules; and of document 02
-//! the burst types, the signal card, (`users`) the users that a count permits, and (`blocks`) midambles by the block.
+//! the burst types, the signal card, (`users`) the users that a count permits, (`blocks`) midambles by the block, and
+//! (`summaries`) free codes at a glance.
 
 mod blocks;
+mod summaries;
 mod users;
 
 use crate::beacons::{beacon_timeslots, words};
@@ -57,6 +59,7 @@ fn figures(rows: &Rows) -> Vec<Figure> {
     figures.extend(seat_3_figures());
     figures.extend(burst_type_figures());
     figures.extend(room_figures());
+    figures.extend(summaries::figures(rows));
     figures.extend(damaged_book_figures());
     figures
 }

@@ -12,7 +12,7 @@ pub const LAST_TIMESLOT: u32 = 14;
 const FIELDS: [[usize; 4]; 3] = [[976, 512, 976, 96], [1104, 256, 1104, 96], [976, 512, 880, 192]];
 
 /// Up or down, there is no third.
-#[derive(Clone, Copy, PartialEq)]
+#[derive(Clone, Copy, PartialEq, Debug)]
 pub enum Direction {
     Up,
     Down,

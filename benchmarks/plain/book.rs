@@ -2,8 +2,8 @@
 //! back by value; inside, references.
 
 use super::midambles::{good_count, permitted};
-use library::{MqAnswer, MqBook, MqBookAnswer, BOOK_BYTES};
-use std::mem::{align_of, size_of};
+use library::{MqAnswer, MqBook, MqBookAnswer, MqSummary, BOOK_BYTES};
+use std::mem::{align_of, size_of, transmute};
 
 #[derive(Clone, Copy, PartialEq, Eq)]
 #[repr(u8)]
@@ -36,6 +36,28 @@ const BLANK: Booking = Booking {
     tpc: 0,
 };
 
+/// The direction of a timeslot's bookings.
+#[derive(Clone, Copy, PartialEq, Eq)]
+#[repr(u8)]
+pub enum Way {
+    Up,
+    Down,
+    Neither,
+}
+
+/// What a seat's bookings say of one timeslot: leaf l is bit l of the pattern, which lies in two bytes, the low one
+/// first.
+#[derive(Clone, Copy, PartialEq, Eq)]
+#[repr(C)]
+pub struct Slot {
+    pub leaves: [u8; 2],
+    pub way: Way,
+    pub count: u8,
+    pub second: bool,
+}
+
+const FREE: Slot = Slot { leaves: [0, 0], way: Way::Neither, count: 0, second: false };
+
 #[derive(Clone, Copy)]
 #[repr(C)]
 pub struct Seat {
@@ -47,10 +69,20 @@ pub struct Seat {
     pub short: u8,
     pub count: u8,
     pub row: [Booking; 40],
+    pub slots: [Slot; 15],
 }
 
-const CLOSED: Seat =
-    Seat { live: false, cell: 0, sync: 0, k: 0, long: 0, short: 0, count: 0, row: [BLANK; 40] };
+const CLOSED: Seat = Seat {
+    live: false,
+    cell: 0,
+    sync: 0,
+    k: 0,
+    long: 0,
+    short: 0,
+    count: 0,
+    row: [BLANK; 40],
+    slots: [FREE; 15],
+};
 
 #[derive(Clone, Copy)]
 #[repr(C)]
@@ -75,8 +107,10 @@ pub struct BookAnswer {
     pub book: Book,
 }
 
+const EMPTY: Book = Book { seats: [CLOSED; 16] };
+
 pub fn empty_book() -> Book {
-    Book { seats: [CLOSED; 16] }
+    EMPTY
 }
 
 impl Request {
@@ -140,35 +174,21 @@ impl Booking {
             == 0
     }
 
+    /// How many leaves its code covers: its factor is a power of two.
     fn leaves(&self) -> u32 {
-        if self.factor == 0 {
-            0
-        } else {
-            16 / self.factor as u32
-        }
+        16 >> self.factor.trailing_zeros()
     }
 
     fn first_leaf(&self) -> u32 {
-        if self.index == 0 {
-            0
-        } else {
-            (self.index as u32 - 1) * self.leaves()
-        }
+        (self.index as u32 - 1) * self.leaves()
     }
 
     fn key(&self) -> u32 {
         self.timeslot as u32 * 16 + self.first_leaf()
     }
 
-    fn clashes(&self, y: &Booking) -> bool {
-        if self.timeslot != y.timeslot {
-            return false;
-        }
-        if self.direction != y.direction || (self.burst == 2) != (y.burst == 2) {
-            return true;
-        }
-        let (a, b) = (self.first_leaf(), y.first_leaf());
-        a < b + y.leaves() && b < a + self.leaves()
+    fn mask(&self) -> u16 {
+        (((1u32 << self.leaves()) - 1) << self.first_leaf()) as u16
     }
 
     fn breaks_beacon(&self) -> bool {
@@ -179,6 +199,31 @@ impl Booking {
             || (self.user == 1 && !first)
             || matches!(self.user, 2 | 9 | 10)
             || (self.factor == 1 && self.index == 1)
+    }
+}
+
+impl Slot {
+    fn pattern(&self) -> u16 {
+        u16::from_le_bytes(self.leaves)
+    }
+
+    /// Whether a booking of this timeslot clashes with those that are there.
+    fn clashes(&self, x: &Booking) -> bool {
+        self.count != 0
+            && (self.pattern() & x.mask() != 0
+                || self.way as u8 != x.direction as u8
+                || self.second != (x.burst == 2))
+    }
+
+    /// One booking more, which does not clash.
+    fn join(&mut self, x: &Booking) {
+        self.leaves = (self.pattern() | x.mask()).to_le_bytes();
+        self.way = match x.direction {
+            Direction::Up => Way::Up,
+            Direction::Down => Way::Down,
+        };
+        self.count += 1;
+        self.second = x.burst == 2;
     }
 }
 
@@ -262,29 +307,50 @@ impl Seat {
             && self.count <= 40
     }
 
+    /// Whether no two of its bookings clash and its timeslots say what they hold; each of them is well formed.
+    fn slots_ok(&self) -> bool {
+        let mut made = [FREE; 15];
+        for x in self.bookings() {
+            let slot = &mut made[x.timeslot as usize];
+            if slot.clashes(x) {
+                return false;
+            }
+            slot.join(x);
+        }
+        made == self.slots
+    }
+
     fn is_ok(&self) -> bool {
         self.settings_ok()
             && self
                 .bookings()
                 .iter()
                 .all(|x| x.well_formed() && !self.not_permitted(x) && !self.off_beacon(x))
-            && self.bookings().windows(2).all(|w| w[0].key() < w[1].key() && !w[0].clashes(&w[1]))
+            && self.bookings().windows(2).all(|w| w[0].key() < w[1].key())
             && self.row[self.held()..].iter().all(|x| *x == BLANK)
+            && self.slots_ok()
     }
 
     fn add(&mut self, x: Booking) {
-        let at = self.bookings().iter().filter(|y| y.key() < x.key()).count();
-        let mut hold = x;
-        for place in &mut self.row[at..] {
-            std::mem::swap(place, &mut hold);
-        }
+        let held = self.held();
+        let at = self.bookings().partition_point(|y| y.key() < x.key());
+        self.row.copy_within(at..held, at + 1);
+        self.row[at] = x;
+        self.slots[x.timeslot as usize].join(&x);
         self.count += 1;
     }
 
     fn remove(&mut self, at: usize) {
-        self.row.copy_within(at + 1.., at);
-        self.row[39] = BLANK;
+        let t = self.row[at].timeslot;
+        let held = self.held();
+        self.row.copy_within(at + 1..held, at);
+        self.row[held - 1] = BLANK;
         self.count -= 1;
+        let mut slot = FREE;
+        for x in self.bookings().iter().filter(|x| x.timeslot == t) {
+            slot.join(x);
+        }
+        self.slots[t as usize] = slot;
     }
 }
 
@@ -330,7 +396,7 @@ impl Book {
         if s.not_permitted(&x) {
             return 16;
         }
-        if s.bookings().iter().any(|y| x.clashes(y)) {
+        if s.slots[x.timeslot as usize].clashes(&x) {
             return 17;
         }
         if s.off_beacon(&x) {
@@ -399,14 +465,17 @@ pub fn open_seat(
     BookAnswer { refusal, book }
 }
 
-// The calls on the caller's 5,232 bytes, by value. A caller's byte may be any: where one is neither of the two that
-// `live` or `direction` can be, the book is refused as broken.
+// The calls on the caller's 6,432 bytes, by value. A caller's byte may be any: where one is none of the two or three
+// that `live`, `direction`, `way` or `second` can be, the book is refused as broken.
 
 impl Book {
     fn of(bytes: &mut MqBook) -> Option<&mut Book> {
         let seats = bytes.0.chunks_exact(size_of::<Seat>());
-        let fine =
-            |seat: &[u8]| seat[0] < 2 && seat[7..].chunks_exact(8).all(|booking| booking[1] < 2);
+        let fine = |seat: &[u8]| {
+            seat[0] < 2
+                && seat[7..327].chunks_exact(8).all(|booking| booking[1] < 2)
+                && seat[327..].chunks_exact(5).all(|slot| slot[2] < 3 && slot[4] < 2)
+        };
         if !seats.into_iter().all(fine) {
             return None;
         }
@@ -425,7 +494,8 @@ fn changed(mut book: MqBook, change: impl FnOnce(&mut Book) -> u32) -> MqBookAns
 
 #[inline(never)]
 pub fn empty() -> MqBook {
-    MqBook([0; BOOK_BYTES])
+    const BYTES: MqBook = unsafe { transmute(EMPTY) };
+    BYTES
 }
 
 #[inline(never)]
@@ -507,4 +577,26 @@ pub fn list(mut book: MqBook, seat: u32, out: &mut [u8]) -> MqAnswer {
         ]);
     }
     MqAnswer::giving(bookings.len() as u32)
+}
+
+#[inline(never)]
+pub fn summary(mut book: MqBook, seat: u32, timeslot: u32) -> MqSummary {
+    let refusing = |refusal| MqSummary { refusal, ..MqSummary::default() };
+    if timeslot > 14 {
+        return refusing(5);
+    }
+    let Some(b) = Book::of(&mut book) else {
+        return refusing(12);
+    };
+    let refusal = b.seat_refusal(seat);
+    if refusal != 0 {
+        return refusing(refusal);
+    }
+    let slot = &b.seats[seat as usize].slots[timeslot as usize];
+    MqSummary {
+        refusal: 0,
+        leaves: slot.pattern() as u32,
+        direction: slot.way as u32,
+        count: slot.count as u32,
+    }
 }

@@ -1,8 +1,9 @@
 //! The scenarios of `second every` over C, call by call; bookings in a direction that is neither; lists in lent memory
-//! of every length; and a book with each of its bytes damaged.
+//! of every length; summaries of every seat; and a book with each of its bytes damaged, and each bit of its summaries.
 
 use super::LARGEST;
 use crate::beside::{direction_number, Beside};
+use crate::damage;
 use library::{MqBook, BOOK_BYTES};
 use second::calls::{self, Call};
 use second::scenarios;
@@ -16,8 +17,10 @@ pub fn run(both: &mut Beside) {
     scenarios.expect("nothing is printed");
     fill(both);
     lists(both);
+    summaries(both);
     neither_direction(both);
     damaged(both);
+    summary_damaged(both);
 }
 
 /// A call on the book; the book afterwards.
@@ -34,6 +37,11 @@ fn put(both: &mut Beside, call: &Call) -> MqBook {
         "close" => {
             let [seat] = call.numbers();
             both.close(b, seat)
+        }
+        "summary" => {
+            let [seat, timeslot] = call.numbers();
+            both.summary(b, seat, timeslot);
+            b
         }
         _ => {
             let [seat] = call.numbers();
@@ -64,6 +72,15 @@ fn lists(both: &mut Beside) {
     }
 }
 
+/// Of every seat in every timeslot, and of what is none.
+fn summaries(both: &mut Beside) {
+    for seat in (0..=16).chain([LARGEST]) {
+        for timeslot in (0..=16).chain([LARGEST]) {
+            both.summary(both.book, seat, timeslot);
+        }
+    }
+}
+
 /// Over C a direction is a number, and one that is neither is refused.
 fn neither_direction(both: &mut Beside) {
     for direction in [2, 3, 255, 256, LARGEST] {
@@ -88,11 +105,30 @@ fn damaged(both: &mut Beside) {
     for place in 0..BOOK_BYTES {
         let mut broken = both.book;
         broken.0[place] = 255;
-        both.open(broken, [0, 0, 1, 0, 0, 0]);
-        both.book(broken, 1, [14, 0, 1, 16, 16, 3, 0, 0]);
-        both.cancel(broken, [1, 1, 16, 1]);
-        both.close(broken, 1);
-        both.list(broken, 1, 320);
+        every_call(both, broken);
     }
     both.model.damaged = false;
+}
+
+/// A single bit of a summary turned over breaks them too.
+fn summary_damaged(both: &mut Beside) {
+    both.model.damaged = true;
+    for place in damage::summary_bytes() {
+        for bit in 0..8 {
+            let mut broken = both.book;
+            broken.0[place] ^= 1 << bit;
+            every_call(both, broken);
+        }
+    }
+    both.model.damaged = false;
+}
+
+/// Every call of the class book, on one that breaks its conditions.
+fn every_call(both: &mut Beside, broken: MqBook) {
+    both.open(broken, [0, 0, 1, 0, 0, 0]);
+    both.book(broken, 1, [14, 0, 1, 16, 16, 3, 0, 0]);
+    both.cancel(broken, [1, 1, 16, 1]);
+    both.close(broken, 1);
+    both.list(broken, 1, 320);
+    both.summary(broken, 1, 14);
 }

@@ -24,7 +24,7 @@ pub fn figures(rows: &Rows) -> Vec<Figure> {
 }
 
 /// What each of the numbers 0 to 18 and the largest gets, in this order: `ok`, or the number of the refusal.
-fn each<T>(ask: impl Fn(u32) -> Answer<T>) -> String {
+pub fn each<T>(ask: impl Fn(u32) -> Answer<T>) -> String {
     let answers = (0..=18).chain([u32::MAX]).map(|number| match ask(number) {
         Ok(_) => "ok".to_string(),
         Err(refusal) => refusal.to_string(),

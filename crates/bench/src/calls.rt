@@ -12,6 +12,7 @@ use lesson_replies::paging_calls;
 use lesson_replies::replies;
 use lesson_replies::replies::Reply;
 use lesson_replies::say;
+use lesson_replies::summary_calls;
 use lesson_replies::timeslot_calls;
 use lesson_words::numbers;
 use lesson_words::numbers::Values;
@@ -26,10 +27,10 @@ pub struct Turn {
 // The calls whose replies are numbers, by their numbers in the table below.
 fn numbered(call: u32, v: Values) -> Reply {
     match call {
-        5 => midamble_calls::chip(v),
-        11 => timeslot_calls::at_chip(v),
-        12 => beacon_calls::beacon(v),
-        13 => paging_calls::indicator(v),
+        6 => midamble_calls::chip(v),
+        12 => timeslot_calls::at_chip(v),
+        13 => beacon_calls::beacon(v),
+        14 => paging_calls::indicator(v),
         _ => paging_calls::owner(v),
     }
 }
@@ -38,14 +39,15 @@ fn numbered(call: u32, v: Values) -> Reply {
 fn asking(out: &mut [u8; 4096], at: usize, call: u32, v: Values, row: &[u8], b: Book) -> usize {
     match call {
         4 => book_calls::list(out, at, v, b),
-        6 => midamble_calls::midamble(out, at, v),
-        7 => midamble_calls::block(out, at, v),
-        8 => card_calls::pair(out, at, v),
-        9 => card_calls::pairs(out, at, v),
-        10 => timeslot_calls::parts(out, at, v),
-        14 => paging_calls::row(out, at, false, v, row),
-        15 => paging_calls::row(out, at, true, v, row),
-        17 => help::help(out, at),
+        5 => summary_calls::summary(out, at, v, b),
+        7 => midamble_calls::midamble(out, at, v),
+        8 => midamble_calls::block(out, at, v),
+        9 => card_calls::pair(out, at, v),
+        10 => card_calls::pairs(out, at, v),
+        11 => timeslot_calls::parts(out, at, v),
+        15 => paging_calls::row(out, at, false, v, row),
+        16 => paging_calls::row(out, at, true, v, row),
+        18 => help::help(out, at),
         _ => replies::said(out, at, numbered(call, v)),
     }
 }
@@ -87,7 +89,7 @@ fn worded(
     made(out, at, call, v, &rest[from..to], b)
 }
 
-// A line by its first word, in a table of eighteen calls.
+// A line by its first word, in a table of nineteen calls.
 fn tabled(
     out: &mut [u8; 4096],
     at: usize,
@@ -99,8 +101,8 @@ fn tabled(
 ) -> Turn
     ensures { λ r. ⌜ r .book ≡ tabledBy (now (table .entry)) (now (name .entry)) (now (rest .entry)) b ⌝ }
 {
-    let found = words::look_up(name, table, 18);
-    if found.number == 18 {
+    let found = words::look_up(name, table, 19);
+    if found.number == 19 {
         let n = say::unknown(out, at, number, name);
         return Turn { at: n, book: b };
     }
@@ -119,7 +121,7 @@ fn named(out: &mut [u8; 4096], at: usize, number: u64, name: &[u8], rest: &[u8],
         number,
         name,
         rest,
-        b"open nnnnnn book nndnnnnnn cancel nnnn close n list n chip nnnnn midamble nnnn block nnnnnn pair nnnnnn pairs nnnnn parts ndnnn at ndnnnn beacon nn indicator nnnn page nnr read nnr owner nnn help",
+        b"open nnnnnn book nndnnnnnn cancel nnnn close n list n summary nn chip nnnnn midamble nnnn block nnnnnn pair nnnnnn pairs nnnnn parts ndnnn at ndnnnn beacon nn indicator nnnn page nnr read nnr owner nnn help",
         b,
     )
 }

@@ -1,10 +1,11 @@
 // What one walk through the class book finds, and which refusal each call on the book gets from it, if any: the tables of document 01, read row by row.
 ghost use mathlib.Core.Path.{_≡_};
-ghost use mathlib.Core.Bool.{_&&_};
+ghost use mathlib.Core.Bool.{true, false, _&&_};
 ghost use Prim.Native.Nat.{_+_, _-_, _≤_, min};
 ghost use lib.Dec.{eqb, leb};
 ghost use Rattle.refusals.specs.Refusals.{firstOf};
 ghost use Rattle.refusals.specs.Inside.{rowByRow};
+ghost use Rattle.conditions.specs.Conditions.{badTimeslot, badCode};
 ghost use Rattle.seats.specs.Seats.{held, seatOk};
 ghost use Rattle.book_tables.specs.Inside.{openRows, ownRows, bookingRows, cancelRows, seatRows};
 use bookings::Booking;
@@ -83,14 +84,15 @@ fn own_refusal(n: u32, barred: bool, clash: bool, off: bool, full: bool, out: bo
     refusals::or_refused(n, 20, out)
 }
 
-// Of a booking whose own numbers have passed: the book, the seat and its room.
+// Of a booking whose own numbers have passed: the book, the seat and its room. Public for the crate classbook, whose walk has found the seat.
 pub fn booking_refusal(ok: bool, used: usize, seat: u32, s: Seat, x: Booking) -> u32
+    requires { ⌜ (badTimeslot (x .timeslot) ≡ false) × (badCode (x .factor) (x .index) ≡ false) × (ok ≡ true → seatOk s ≡ true) ⌝ }
     ensures { λ r. ⌜ r ≡ firstOf (bookingRows ok used seat s x) ⌝ }
 {
-    let row = s.row;
+    let slots = s.slots;
     let held = seats::held_by(s.count);
     let barred = seats::rules::not_permitted(s.long, s.short, x);
-    let clash = seats::rules::clashes_any(row, held, x);
+    let clash = seats::rules::clashes_there(slots, x);
     let off = seats::rules::off_beacon(s.case, s.k, x);
     let out = used_up(held, used);
     let n = seat_refusal(ok, seat, s.live);

@@ -1,5 +1,5 @@
--- Being type 2 or not parts the types in two, and types do not clash where they are of one part. So not to clash by type is an equivalence, which is why neighbours
--- are enough. Cited by Order, and by the crates plans and facts. Assumes nothing.
+-- Being type 2 or not parts the types in two, and types do not clash where they are of one part: so one truth value says of all bookings of a timeslot which types
+-- clash with them. Cited by Clash and by the crate facts. Assumes nothing.
 use mathlib.Core.Path.{_≡_, refl, sym, _∙_}
 use mathlib.Core.Logic.{_↔_}
 use mathlib.Core.Bool.{Bool, true, false, xor}
@@ -23,10 +23,6 @@ alike t u = not-one (eqb t 2) (eqb u 2)
 -- a type does not clash with itself
 pub mixed-self : (t : ℕ) → mixed t t ≡ false
 mixed-self t = alike t t .1 refl
-
--- and what does not clash with a third between them does not clash
-pub mixed-trans : (t u v : ℕ) → mixed t u ≡ false → mixed u v ≡ false → mixed t v ≡ false
-mixed-trans t u v p q = alike t v .1 (alike t u .0 p ∙ alike u v .0 q)
 
 -- two clash whichever is named first
 turned : (t u : ℕ) → mixed t u ≡ false → mixed u t ≡ false

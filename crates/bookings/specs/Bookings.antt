@@ -1,12 +1,13 @@
 -- Document 01, "The class book" and "Beacon timeslots": what one booking must meet, what it covers, and when two of a seat clash; of their types document 02.
--- Cited by the crates seats and classbook. Assumes nothing.
+-- Cited by the crates slots, seats and classbook. Assumes nothing.
 use mathlib.Core.Bool.{Bool, not, xor, _&&_, _||_}
 use mathlib.Core.List.{[], _∷_}
-use Prim.Native.Nat.{ℕ, _+_, _-_, _*_, _/_}
+use Prim.Native.Nat.{ℕ, _+_, _*_}
 use lib.Dec.{eqb, ltb}
 use Rattle.conditions.specs.Conditions.{isDown}
 use Rattle.tables.specs.Tables.{formRefusals}
 use Rattle.refusals.specs.Refusals.{Refusals, firstOf}
+use Rattle.leaves.specs.Leaves.{leavesOf, firstLeaf}
 use Rattle.conditions.specs.declared.Direction.{Direction}
 use Rattle.conditions.specs.declared.Direction.the-variants.{Up, Down}
 use Rattle.bookings.specs.declared.Booking.{Booking}
@@ -14,14 +15,6 @@ use Rattle.bookings.specs.declared.Booking.{Booking}
 -- "every booking passes 2 and 4 to 8": the first of these refusals that its own numbers get, or 0
 unfoldable pub formOf : Booking → ℕ
 formOf x = firstOf (formRefusals (x .timeslot) (x .direction) (x .burst) (x .factor) (x .index) (x .user) (x .tfci) (x .tpc))
-
--- "Code (Q, k) covers the 16/Q leaves from (k - 1)16/Q"
-unfoldable pub leavesOf : ℕ → ℕ
-leavesOf Q = 16 / Q
-
--- the first of them
-unfoldable pub firstLeaf : ℕ → ℕ → ℕ
-firstLeaf Q k = (k - 1) * leavesOf Q
 
 -- the first leaf of a booking's code
 abbrev pub leaf : Booking → ℕ

@@ -12,6 +12,7 @@ use Rattle.laws.specs.Lists.{every, removeAt}
 use Rattle.refusals.specs.Refusals.{firstOf}
 use Rattle.refusals.proofs.First.{numbered, append-refused, append-passes, append-front}
 use Rattle.bookings.specs.declared.Booking.{Booking}
+use Rattle.bookings.specs.Bookings.{formOf}
 use Rattle.seats.specs.declared.Seat.{Seat}
 use Rattle.tables.specs.Tables.{formRefusals, settingsRefusals}
 use Rattle.seats.specs.Seats.{held, bookings, insert, names, without, withPlan, seatOk}
@@ -19,11 +20,11 @@ use Rattle.plans.specs.Inside.{placeNamed}
 use Rattle.plans.proofs.Cancelled.{removed-plan}
 use Rattle.classbook.specs.declared.Book.{Book}
 use Rattle.classbook.specs.declared.Request.{Request}
-use Rattle.classbook.specs.Book.{seatOf, withSeat}
+use Rattle.classbook.specs.Book.{seatOf, withSeat, bookOk}
 use Rattle.classbook.specs.Conditions.{badBook, badSeat, isOpen, noneNamed}
 use Rattle.classbook.specs.Calls.{longCount, shortCount, openRefusals, withBook, asBooking, requestRefusals, bookingRefusals, bookRefusals, booked, bookAnswer, cancelRefusals, cancelled}
 use Rattle.classbook.specs.Inside.{bookingAnswer}
-use Rattle.classbook.proofs.Passed.{seat-good, booking-passed, cancel-passed}
+use Rattle.classbook.proofs.Passed.{seat-good, any-seat-good, booking-passed, cancel-passed}
 
 -- ---- open: the settings passed
 settings-numbered : (cell case k long short : ℕ) → T (numbered (settingsRefusals cell case k long short))
@@ -58,7 +59,15 @@ pub one-named : (s : Seat) (timeslot factor index n p : ℕ) → n ≡ held s
 unfolding noneNamed
 one-named s timeslot factor index n p en e = e ∙ ap (λ (k : ℕ). every (λ y. not (names timeslot factor index y)) (take k (s .row))) en
 
+-- the form of a request that has passed is that of the booking
+pub form-kept : (x : Request) (y : Booking) → firstOf (requestRefusals x) ≡ 0 → y ≡ asBooking x → formOf y ≡ 0
+unfolding requestRefusals asBooking formOf
+form-kept x y z e = rw e z
+
 module _ (b : Book) (seat : ℕ) (s : Seat) (es : s ≡ seatOf b seat) where
+  pub found-good : (ok : Bool) → length (b .seats) ≡ 16 → ok ≡ bookOk b → ok ≡ true → seatOk s ≡ true
+  found-good ok sixteen eo t = ap (λ (t : Seat). seatOk t) es ∙ any-seat-good b seat sixteen (sym eo ∙ t)
+
   pub booking-ready : (x : Booking) → length (b .seats) ≡ 16 → firstOf (bookingRefusals b seat x) ≡ 0 → (seatOk s ≡ true) × (held s < 40)
   booking-ready x sixteen e =
       let p = booking-passed b seat x e in

@@ -1,15 +1,18 @@
 -- What a call knows that was not refused. Cited by the proofs of the calls, and by Made, Valid and Meaning.
 -- Assumes nothing.
 use mathlib.Core.Path.{_≡_, sym, _∙_}
+use mathlib.Core.Logic.{⊎-elim}
 use mathlib.Core.Bool.{true, false}
 use mathlib.Core.List.{[], _∷_}
 use Prim.Native.Nat.{ℕ, _≤_, _<_}
+use native.Mathlib.Nat.{le-of-suc-le-suc}
 use native.Mathlib.Omega.{arith}
 use lib.Dec.{T, leb}
-use lib.ListN.{length}
+use lib.ListN.{length, List·getD-eq-default}
 use borrow.Author.Tests.{eq-eqb, ltb-false, eqb-false, not-false}
 use Rattle.laws.specs.Lists.{every}
 use Rattle.laws.proofs.Bools.{and-true}
+use Rattle.laws.proofs.Cases.{below-or-not}
 use Rattle.laws.proofs.Lists.{every-at}
 use Rattle.refusals.specs.Refusals.{Refusals, firstOf}
 use Rattle.refusals.proofs.First.{numbered, first-none, append-passes, append-front}
@@ -19,6 +22,7 @@ use Rattle.tables.specs.Tables.{formRefusals, settingsRefusals}
 use Rattle.bookings.specs.Bookings.{formOf}
 use Rattle.seats.specs.Conditions.{notPermitted, offBeacon, clashesWith}
 use Rattle.seats.specs.Seats.{closed, held, bookings, stands, standsIn, seatOk}
+use Rattle.plans.proofs.Kept.{closed-ok}
 use Rattle.classbook.specs.declared.Book.{Book}
 use Rattle.classbook.specs.declared.Request.{Request}
 use Rattle.classbook.specs.Book.{seatOf, common, bookOk}
@@ -29,6 +33,12 @@ use Rattle.classbook.specs.Calls.{asBooking, requestRefusals, bookingRef
 pub seat-good : (b : Book) (seat : ℕ) → length (b .seats) ≡ 16 → bookOk b ≡ true → seat ≤ 15 → seatOk (seatOf b seat) ≡ true
 unfolding bookOk seatOf
 seat-good b seat l ok h = every-at seatOk (b .seats) seat closed (omega arith) (and-true (every seatOk (b .seats)) (leb (common b) 80) ok .0)
+
+-- and so does a closed one, which is what there is above 15
+pub any-seat-good : (b : Book) (seat : ℕ) → length (b .seats) ≡ 16 → bookOk b ≡ true → seatOk (seatOf b seat) ≡ true
+unfolding seatOf
+any-seat-good b seat l ok =
+    ⊎-elim (λ h. seat-good b seat l ok (le-of-suc-le-suc h)) (λ h. rw (List·getD-eq-default (b .seats) closed {n = seat} (omega arith)) closed-ok) (below-or-not seat 16)
 
 -- ---- a booking
 pub record BookingPassed (b : Book) (seat : ℕ) (x : Booking) : Type 0 where

@@ -7,6 +7,7 @@ use Rattle.classbook.proofs.open_seat.Reads as open-seat
 use Rattle.classbook.proofs.book_code.Reads as book-code
 use Rattle.classbook.proofs.cancel_code.Reads as cancel-code
 use Rattle.classbook.proofs.close_seat.Reads as close-seat
+use Rattle.classbook.proofs.seat_asked.Reads as seat-asked
 use Rattle.classbook.proofs.list_seat.Reads as list-seat
 
 pub empty-book-asks-nothing : (κs : _) (a : _) → empty-book.Pre κs a
@@ -44,6 +45,12 @@ close-seat-asks-nothing κs a = tt
 
 pub close-seat-unique : (κs : _) (a : _) (r r' : _) (s s' : _) → close-seat.Post κs a r s → close-seat.Post κs a r' s' → r ≡ r'
 close-seat-unique κs a r r' s s' p q = p ∙ sym q
+
+pub seat-asked-asks-nothing : (κs : _) (a : _) → seat-asked.Pre κs a
+seat-asked-asks-nothing κs a = tt
+
+pub seat-asked-unique : (κs : _) (a : _) (r r' : _) (s s' : _) → seat-asked.Post κs a r s → seat-asked.Post κs a r' s' → r ≡ r'
+seat-asked-unique κs a r r' s s' p q = p ∙ sym q
 
 pub list-seat-asks-nothing : (κs : _) (a : _) → list-seat.Pre κs a
 list-seat-asks-nothing κs a = tt

@@ -1,4 +1,4 @@
--- What the calls on the class book answer and what book they leave, for any book and any numbers. Cited by the promises of open, book, cancel, close and list.
+-- What the calls on the class book answer and what book they leave, for any book and any numbers. Cited by the promises of open, book, cancel, close, list and of a seat asked.
 -- Each call's refusals are a table, read from the top: bad arguments, then the book (12), then seat, booking and room. Assumes nothing.
 use mathlib.Core.Bool.{cond}
 use mathlib.Core.List.{[], _∷_, _++_}
@@ -16,6 +16,7 @@ use Rattle.classbook.specs.declared.Book.{Book}
 use Rattle.classbook.specs.declared.Request.{Request}
 use Rattle.classbook.specs.declared.BookAnswer.{BookAnswer}
 use Rattle.classbook.specs.declared.ListAnswer.{ListAnswer}
+use Rattle.classbook.specs.declared.SeatAnswer.{SeatAnswer}
 use Rattle.classbook.specs.Book.{seatOf, withSeat}
 use Rattle.classbook.specs.Conditions.{badBook, badSeat, notOpen, isOpen, seatFull, roomUsedUp, noneNamed}
 
@@ -123,6 +124,10 @@ seatRefusals b seat = (12, badBook b) ∷ (13, badSeat seat) ∷ (14, notOpen b 
 -- refused, or the book with the seat closed
 unfoldable pub closeAnswer : Book → ℕ → BookAnswer
 closeAnswer b seat = withBook (firstOf (seatRefusals b seat)) b (withSeat b seat closed)
+
+-- ---- a seat asked (12, 13, 14): the refusal's number, or 0, and the seat that is named
+unfoldable pub seatAnswer : Book → ℕ → SeatAnswer
+seatAnswer b seat = record { refusal = firstOf (seatRefusals b seat); seat = seatOf b seat }
 
 -- ---- list (12, 13, 14; 11 where it goes into a lent row)
 

@@ -4,8 +4,9 @@ mod walk;
 
 ghost use mathlib.Core.Path.{_≡_};
 ghost use Prim.Native.Nat.{_≤_};
+ghost use Rattle.bookings.specs.Bookings.{formOf};
 ghost use Rattle.classbook.specs.Book.{emptyBook, withSeat, bookOk};
-ghost use Rattle.classbook.specs.Calls.{longCount, shortCount, openAnswer, withBook, asBooking, bookAnswer, cancelAnswer, closeAnswer, listWith, listAnswer};
+ghost use Rattle.classbook.specs.Calls.{longCount, shortCount, openAnswer, withBook, asBooking, bookAnswer, cancelAnswer, closeAnswer, seatAnswer, listWith, listAnswer};
 ghost use Rattle.classbook.specs.Inside.{bookingAnswer};
 use bookings::Booking;
 use conditions::Direction;
@@ -38,6 +39,12 @@ pub struct ListAnswer {
     pub refusal: u32,
     pub count: u32,
     pub row: [Booking; 40],
+}
+
+// The refusal's number, or 0, of a call that only asks a seat; and the seat that it names, above 15 a closed one.
+pub struct SeatAnswer {
+    pub refusal: u32,
+    pub seat: Seat,
 }
 
 // An empty book: made by the program, never by a learner.
@@ -132,6 +139,7 @@ fn kept(x: Request) -> Booking
 
 // Books it: the request's own numbers have been tested.
 fn book_kept(b: Book, seat: u32, x: Booking) -> BookAnswer
+    requires { ⌜ formOf x ≡ 0 ⌝ }
     ensures { λ r. ⌜ r ≡ bookingAnswer b seat x ⌝ }
 {
     let found = walk::check(b, seat);
@@ -200,6 +208,16 @@ pub fn close_seat(b: Book, seat: u32) -> BookAnswer
     let n = book_tables::seat_refusal(t.ok, seat, t.seat.live);
     let none = seats::closed_seat();
     exchanged(n, b, seat, none)
+}
+
+// The seat that a call names. Refusals: 12, 13, 14. No call of document 01: public for the crate summaries.
+pub fn seat_asked(b: Book, seat: u32) -> SeatAnswer
+    ensures { λ r. ⌜ r ≡ seatAnswer b seat ⌝ }
+{
+    let w = walk::check(b, seat);
+    let refusal = book_tables::seat_refusal(w.ok, seat, w.seat.live);
+    let s = w.seat;
+    SeatAnswer { refusal, seat: s }
 }
 
 // The list of a call whose first refusal is n: nothing, or the seat's row.

@@ -17,7 +17,8 @@ use Rattle.refusals.specs.Refusals.{after}
 use Rattle.refusals.proofs.First.{after-refused, after-answered}
 use Rattle.seats.specs.declared.Seat.{Seat}
 use Rattle.seats.specs.Seats.{closed, held, bookings, insert, without, seatOk}
-use Rattle.plans.proofs.Plans.{plan-length, with-plan-row, sound}
+use Rattle.seats.proofs.Sound.{sound}
+use Rattle.plans.proofs.Plans.{plan-length, with-plan-row}
 use Rattle.plans.proofs.Kept.{insert-length, closed-ok}
 use Rattle.plans.proofs.Cancelled.{without-length}
 use Rattle.classbook.specs.declared.Book.{Book}
@@ -25,7 +26,7 @@ use Rattle.classbook.specs.Book.{emptyBook, seatOf, withSeat, planOf, common, b
 use Rattle.classbook.specs.Calls.{openSeat, asBooking, bookAnswer}
 use Rattle.classbook.proofs.Passed.{book-passed}
 use Rattle.classbook.proofs.Valid.{Sized, empty-ok, open-kept, book-kept, cancel-kept, close-kept}
-use Rattle.demand.specs.Lesson.{Call, opens, books, cancels, closes, lists, Turn, reply, numberOf, next, runThrough}
+use Rattle.demand.specs.Lesson.{Call, opens, books, cancels, closes, lists, glances, Turn, reply, numberOf, next, runThrough}
 use Rattle.demand.specs.Demand.{holds}
 use Rattle.demand.proofs.Seats.{replicate-at, set-shows, every-place}
 use Rattle.demand.proofs.Own.{made, next-own}
@@ -90,6 +91,7 @@ made-wide b i (cancels timeslot factor index) g z =
     with-plan-row s (without timeslot factor index (bookings s)) (omega (arith, without-length timeslot factor index (bookings s), plan-length s (g .wide i)))
 made-wide b i closes g z = refl
 made-wide b i (lists lent) g z = g .wide i
+made-wide b i (glances timeslot) g z = g .wide i
 
 next-ok : (b : Book) (i : ℕ) (c : Call) → Good b → bookOk (next b i c) ≡ true
 unfolding next
@@ -104,6 +106,7 @@ next-ok b i c g = go c
     go (cancels timeslot factor index) = cancel-kept b sized (g .ok) i timeslot factor index
     go closes = close-kept b sized (g .ok) i
     go (lists lent) = g .ok
+    go (glances timeslot) = g .ok
 
 pub next-good : (b : Book) (i : ℕ) (c : Call) → Good b → Good (next b i c)
 next-good b i c g =

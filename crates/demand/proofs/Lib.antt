@@ -6,3 +6,4 @@ pub mod Alone
 pub mod Demand3
 pub mod NotTrivial
 pub mod Promises
+pub mod Unasked

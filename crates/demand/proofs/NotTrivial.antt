@@ -15,9 +15,11 @@ use Rattle.classbook.specs.Calls.{asBooking}
 use Rattle.classbook.proofs.Valid.{Sized}
 use Rattle.classbook.proofs.Meaning.{booked-plan}
 use Rattle.listing.specs.Listing.{listRefusals, listOutcome}
-use Rattle.demand.specs.Lesson.{Turn, books, lists, listed, reply, numberOf, next}
+use Rattle.slots.specs.Slots.{slotOf}
+use Rattle.summaries.specs.Summaries.{summaryRefusals, glanceOf, summaryAnswer}
+use Rattle.demand.specs.Lesson.{Turn, books, lists, glances, listed, summed, reply, numberOf, next}
 use Rattle.demand.specs.Demand.{holds, bookAfter}
-use Rattle.demand.proofs.Own.{list-number}
+use Rattle.demand.proofs.Own.{list-number, summary-number}
 use Rattle.demand.proofs.Demand3.{lesson-good}
 
 module _ (ts : List Turn) (i : ℕ) where
@@ -47,3 +49,11 @@ module _ (ts : List Turn) (i : ℕ) where
       let zero : n ≡ 0 = sym (list-number b i lent) ∙ z in
       ap (λ a. listed (a leaving after n lent (l ++ drop (length l) lent))) (answer-answered n (length l) zero)
       ∙ ap (λ (r : List Booking). listed (answered (length l) leaving r)) (after-answered n lent (l ++ drop (length l) lent) zero)
+
+  -- a summary that is not refused says what the plan's bookings say of that timeslot
+  pub summary-is-plan : (timeslot : ℕ) → numberOf (reply (bookAfter ts) i (glances timeslot)) ≡ 0
+      → reply (bookAfter ts) i (glances timeslot) ≡ summed (answered (glanceOf (slotOf timeslot (planOf (seatOf (bookAfter ts) i) .list))))
+  unfolding reply planOf summaryAnswer
+  summary-is-plan timeslot z =
+      let b = bookAfter ts in
+      ap summed (answer-answered (firstOf (summaryRefusals b i timeslot)) (glanceOf (slotOf timeslot (bookings (seatOf b i)))) (sym (summary-number b i timeslot) ∙ z))

@@ -23,7 +23,10 @@ use Rattle.classbook.specs.Book.{seatOf, withSeat}
 use Rattle.classbook.specs.Conditions.{badBook, badSeat, notOpen, isOpen, seatFull, roomUsedUp, noneNamed}
 use Rattle.classbook.specs.Calls.{longCount, shortCount, openSeat, openRefusals, openAnswer, asBooking, requestRefusals, bookingRefusals, bookRefusals, booked, bookAnswer, cancelRefusals, cancelled, cancelAnswer, seatRefusals, closeAnswer}
 use Rattle.listing.specs.Listing.{fewRecords, listRefusals, listOutcome}
-use Rattle.demand.specs.Lesson.{Call, opens, books, cancels, closes, lists, Reply, number, listed, reply, numberOf, next}
+use Rattle.slots.specs.Slots.{slotOf}
+use Rattle.summaries.specs.declared.Glance.{Glance}
+use Rattle.summaries.specs.Summaries.{summaryRefusals, glanceOf, summaryAnswer}
+use Rattle.demand.specs.Lesson.{Call, opens, books, cancels, closes, lists, glances, Reply, number, listed, summed, reply, numberOf, next}
 
 -- ---- the refusals: bad says whether the book breaks its conditions, full whether the common room is used up for the seat s
 
@@ -40,6 +43,7 @@ table bad full s i (cancels timeslot factor index) =
     (5, badTimeslot timeslot) ∷ (6, badCode factor index) ∷ (12, bad) ∷ (13, badSeat i) ∷ (14, not (s .live)) ∷ (21, noneNamed s timeslot factor index) ∷ []
 table bad full s i closes = (12, bad) ∷ (13, badSeat i) ∷ (14, not (s .live)) ∷ []
 table bad full s i (lists lent) = (11, fewRecords lent) ∷ (12, bad) ∷ (13, badSeat i) ∷ (14, not (s .live)) ∷ []
+table bad full s i (glances timeslot) = (5, badTimeslot timeslot) ∷ (12, bad) ∷ (13, badSeat i) ∷ (14, not (s .live)) ∷ []
 
 -- the number that a list's outcome carries is that of its first refusal
 outcome-number : (n m : ℕ) (records : List Booking) → numberOf (listed (answer n m leaving records)) ≡ n
@@ -57,14 +61,28 @@ list-number b i lent =
     let l = bookings (seatOf b i) in
     outcome-number n (length l) (after n lent (l ++ drop (length l) lent))
 
+-- and that of a summary's answer
+answer-number : (n : ℕ) (g : Glance) → numberOf (summed (answer n g)) ≡ n
+unfolding numberOf
+answer-number n g =
+    ⊎-elim
+    (λ t. ap (λ a. numberOf (summed a)) (answer-answered n g (eqb-true n 0 t)) ∙ sym (eqb-true n 0 t))
+    (λ f. ap (λ a. numberOf (summed a)) (answer-refused n g (eqb-false n 0 f)))
+    (by-cases (eqb n 0))
+
+pub summary-number : (b : Book) (i timeslot : ℕ) → numberOf (summed (summaryAnswer b i timeslot)) ≡ firstOf (summaryRefusals b i timeslot)
+unfolding summaryAnswer
+summary-number b i timeslot = answer-number (firstOf (summaryRefusals b i timeslot)) (glanceOf (slotOf timeslot (bookings (seatOf b i))))
+
 -- what a call is refused with
 pub number-own : (b : Book) (i : ℕ) (c : Call) → numberOf (reply b i c) ≡ firstOf (table (badBook b) (roomUsedUp b (seatOf b i)) (seatOf b i) i c)
-unfolding reply numberOf openAnswer openRefusals isOpen bookAnswer bookRefusals bookingRefusals notOpen cancelAnswer cancelRefusals closeAnswer seatRefusals listOutcome listRefusals
+unfolding reply numberOf openAnswer openRefusals isOpen bookAnswer bookRefusals bookingRefusals notOpen cancelAnswer cancelRefusals closeAnswer seatRefusals listOutcome listRefusals summaryRefusals
 number-own b i (opens cell case k long short) = refl
 number-own b i (books x) = refl
 number-own b i (cancels timeslot factor index) = refl
 number-own b i closes = refl
 number-own b i (lists lent) = list-number b i lent
+number-own b i (glances timeslot) = summary-number b i timeslot
 
 -- ---- the reply to a call that is refused n, or not refused where n is 0
 abbrev pub told : ℕ → Seat → Call → Reply
@@ -73,14 +91,16 @@ told n s (books x) = number n
 told n s (cancels timeslot factor index) = number n
 told n s closes = number n
 told n s (lists lent) = listed (answer n (length (bookings s)) leaving after n lent (bookings s ++ drop (length (bookings s)) lent))
+told n s (glances timeslot) = summed (answer n (glanceOf (slotOf timeslot (bookings s))))
 
 pub reply-own : (b : Book) (i : ℕ) (c : Call) → reply b i c ≡ told (numberOf (reply b i c)) (seatOf b i) c
-unfolding reply numberOf listOutcome
+unfolding reply numberOf listOutcome summaryAnswer
 reply-own b i (opens cell case k long short) = refl
 reply-own b i (books x) = refl
 reply-own b i (cancels timeslot factor index) = refl
 reply-own b i closes = refl
 reply-own b i (lists lent) = ap (λ (n : ℕ). told n (seatOf b i) (lists lent)) (sym (list-number b i lent))
+reply-own b i (glances timeslot) = ap (λ (n : ℕ). told n (seatOf b i) (glances timeslot)) (sym (summary-number b i timeslot))
 
 -- ---- the seat that a call makes, where it is not refused
 abbrev pub made : Seat → Call → Seat
@@ -89,6 +109,7 @@ made s (books x) = withPlan s (insert (asBooking x) (bookings s))
 made s (cancels timeslot factor index) = withPlan s (without timeslot factor index (bookings s))
 made s closes = closed
 made s (lists lent) = s
+made s (glances timeslot) = s
 
 -- a seat put where it stands
 in-place : (b : Book) (i : ℕ) → withSeat b i (seatOf b i) ≡ b
@@ -110,3 +131,4 @@ next-own b i (books x) = refl
 next-own b i (cancels timeslot factor index) = refl
 next-own b i closes = refl
 next-own b i (lists lent) = unmoved _ b i
+next-own b i (glances timeslot) = unmoved _ b i

@@ -1,5 +1,6 @@
 -- From the code to demand 3: what each call on the book promises is what the lesson says of it.
--- `Post` and `clauses` are the promises that rattle reads off the source of classbook and listing;
+-- `Post` and `clauses` are the promises that rattle reads off the source of classbook, listing and
+-- summaries;
 -- `reply` and `next` are the lesson's. Cited by docs/. Assumes nothing.
 use mathlib.Core.Path.{_≡_, refl, sym, ap, _∙_}
 use mathlib.Core.Bool.{Bool, true, false, cond}
@@ -35,8 +36,11 @@ use Rattle.listing.specs.Inside.{replyOf}
 use Rattle.listing.specs.Listing.{listOutcome, saidList}
 use Rattle.listing.proofs.Answered as into
 use Rattle.listing.proofs.list as list
-use Rattle.demand.specs.Lesson.{Call, opens, books, cancels, closes, lists, Reply, number}
-use Rattle.demand.specs.Lesson.{listed, reply, next, runThrough, Line, log, turns}
+use Rattle.summaries.specs.declared.SummaryReply.{SummaryReply}
+use Rattle.summaries.specs.Summaries.{saidSummary}
+use Rattle.summaries.proofs.summary.Reads as summary
+use Rattle.demand.specs.Lesson.{Call, opens, books, cancels, closes, lists, glances}
+use Rattle.demand.specs.Lesson.{Reply, number, listed, summed, reply, next, runThrough, Line, log, turns}
 use Rattle.demand.specs.Course.{Says, inRecords, Called, Course, lines, lastBook}
 use Rattle.demand.specs.Demand.{bookAfter}
 
@@ -98,6 +102,12 @@ module _ {M : Type 1} (𝓤 : URA M) (H : Heap 𝓤) (A : Atoms 𝓤) (mem : Mem
       fact-use 𝓤 ((saidList r leaving kept) ≡ listOutcome b seat lent) p (λ h.
       factI 𝓤 (Says b seat (lists lent) (listed (saidList r leaving kept)) b) P
       (listed-told b seat lent r kept h))
+
+-- ---- the summary: whatever reply meets its promise is the lesson's, and it hands back no book
+pub summary-promised : (b : Book) (seat timeslot : ℕ) (r : SummaryReply) (κs s : _) → summary.Post κs (b, (seat, (timeslot, tt))) r s
+    → Says b seat (glances timeslot) (summed (saidSummary r)) b
+unfolding reply next
+summary-promised b seat timeslot r κs s p = record { replies = ap summed (sym p); leaves = refl }
 
 -- ---- the list by value: written into records, of which there are enough, it is the lesson's list
 said-reply : (r : ListAnswer) → saidList (replyOf r) ≡ answer (r .refusal) (r .count)

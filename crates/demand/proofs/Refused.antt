@@ -18,7 +18,7 @@ use Rattle.classbook.specs.declared.Book.{Book}
 use Rattle.classbook.specs.Book.{seatOf}
 use Rattle.classbook.specs.Conditions.{badBook, seatFull, roomUsedUp}
 use Rattle.classbook.specs.Calls.{asBooking, requestRefusals}
-use Rattle.demand.specs.Lesson.{Call, opens, books, cancels, closes, lists, reply, numberOf}
+use Rattle.demand.specs.Lesson.{Call, opens, books, cancels, closes, lists, glances, reply, numberOf}
 use Rattle.demand.proofs.Own.{bookTable, table, number-own}
 
 -- ---- a last row decides nothing but its own refusal
@@ -41,6 +41,7 @@ room-only-20 bad full s i (books x) h =
 room-only-20 bad full s i (cancels timeslot factor index) h = refl
 room-only-20 bad full s i closes h = refl
 room-only-20 bad full s i (lists lent) h = refl
+room-only-20 bad full s i (glances timeslot) h = refl
 
 -- ---- a table in which no row of the number m holds does not refuse with it
 abbrev lacks : ℕ → Refusals → Bool
@@ -61,6 +62,7 @@ lacks-19 bad full s i (books x) h = rw h refl
 lacks-19 bad full s i (cancels timeslot factor index) h = refl
 lacks-19 bad full s i closes h = refl
 lacks-19 bad full s i (lists lent) h = refl
+lacks-19 bad full s i (glances timeslot) h = refl
 
 lacks-20 : (bad : Bool) (s : Seat) (i : ℕ) (c : Call) → lacks 20 (table bad false s i c) ≡ true
 unfolding every settingsRefusals requestRefusals formRefusals
@@ -69,6 +71,7 @@ lacks-20 bad s i (books x) = refl
 lacks-20 bad s i (cancels timeslot factor index) = refl
 lacks-20 bad s i closes = refl
 lacks-20 bad s i (lists lent) = refl
+lacks-20 bad s i (glances timeslot) = refl
 
 -- "whoever holds fewer than 10 is never refused 19 or 20", in any book at all
 pub tens-safe : (b : Book) (i : ℕ) (c : Call) → held (seatOf b i) < 10 → (numberOf (reply b i c) ≡ 19 → ⊥) × (numberOf (reply b i c) ≡ 20 → ⊥)

@@ -6,14 +6,17 @@ use mathlib.Core.Bool.{Bool, true, not}
 use mathlib.Core.List.{List, [], _∷_, _++_}
 use Prim.Native.Nat.{ℕ, _*_, _≤_, _<_}
 use lib.ListN.{length, drop}
-use Rattle.refusals.specs.Refusals.{Refusals, Outcome, _leaving_, firstOf, answer, after}
-use Rattle.conditions.specs.Conditions.{tooShort}
+use Rattle.refusals.specs.Refusals.{Answer, Refusals, Outcome, _leaving_, firstOf, answer, after}
+use Rattle.conditions.specs.Conditions.{badTimeslot, tooShort}
+use Rattle.slots.specs.Slots.{slotOf}
 use Rattle.seats.specs.declared.Seat.{Seat}
 use Rattle.seats.specs.Seats.{bookings}
 use Rattle.classbook.specs.declared.Book.{Book}
 use Rattle.classbook.specs.Book.{emptyBook, seatOf, planOf, common}
 use Rattle.classbook.specs.Conditions.{badBook, badSeat, notOpen}
 use Rattle.classbook.specs.Calls.{seatRefusals}
+use Rattle.summaries.specs.declared.Glance.{Glance}
+use Rattle.summaries.specs.Summaries.{summaryRefusals, glanceOf, summaryAnswer}
 use Rattle.demand.specs.Lesson.{Turn, reply, numberOf, log, turns}
 use Rattle.demand.specs.Demand.{holds, bookAfter, AtMostForty, AtMostEighty, TensAreSafe, left}
 use Rattle.demand.proofs.Books.{Good}
@@ -23,17 +26,19 @@ use Rattle.mqarbset_book.specs.declared.MqBook.{MqBook}
 use Rattle.mqarbset_book.specs.Mirror.{proper, readBook, writeBook}
 use Rattle.mqarbset_book.proofs.Kept.{written-proper, kept}
 use Rattle.mqarbset_answers.specs.Answers.{outcomeAsC}
+use Rattle.mqarbset_answers.specs.Summaries.{summaryAsC}
 use Rattle.mqarbset_list.specs.Records.{recordsOf, recordsRefusals, recordsOutcome}
 use Rattle.demand_over_c.specs.Bytes.{partOf, Whole}
-use Rattle.demand_over_c.specs.LessonOverC.{TurnOverC, CallOverC, lists, listed, replyOverC}
-use Rattle.demand_over_c.specs.LessonOverC.{refusalOf, nextOverC, logOverC, emptyBytes}
+use Rattle.demand_over_c.specs.LessonOverC.{TurnOverC, CallOverC, lists, glances, listed}
+use Rattle.demand_over_c.specs.LessonOverC.{summed, replyOverC, refusalOf, nextOverC}
+use Rattle.demand_over_c.specs.LessonOverC.{logOverC, emptyBytes}
 use Rattle.demand_over_c.specs.ByValue.{asked, askedTurns, toldLines}
 use Rattle.demand_over_c.specs.DemandOverC.{bytesAfter, bookSaid, leftOverC, aloneOverC}
 use Rattle.demand_over_c.specs.DemandOverC.{AtMostFortyOverC, AtMostEightyOverC}
 use Rattle.demand_over_c.specs.DemandOverC.{TensAreSafeOverC, AsIfAloneOverC, Demand3OverC}
-use Rattle.demand_over_c.proofs.Mirrored.{written-back}
 use Rattle.demand_over_c.proofs.Step.{same-refusal}
-use Rattle.demand_over_c.proofs.Turns.{run-proper, run-says, log-told, left-told}
+use Rattle.demand_over_c.proofs.Turns.{run-proper, run-again, run-says, log-told}
+use Rattle.demand_over_c.proofs.Turns.{left-told}
 use Rattle.demand_over_c.proofs.Parts.{written-whole, same-part}
 use Rattle.demand_over_c.proofs.Untouched.{others-untouched}
 
@@ -54,7 +59,8 @@ module _ (ts : List TurnOverC) where
 
   -- the bytes are those of that book and no other
   pub bytes-written : bytesAfter ts ≡ writeBook (bookAfter (askedTurns ts))
-  bytes-written = sym (written-back (bytesAfter ts) bytes-proper) ∙ ap writeBook bytes-say
+  bytes-written =
+      sym (run-again ts emptyBytes (ap writeBook start-says)) ∙ ap writeBook bytes-say
 
   -- and they have the sizes of their type
   pub bytes-whole : Whole (bytesAfter ts)
@@ -115,6 +121,29 @@ module _ (i : ℕ) (lent : List ℕ) where
       ∙ ap (own (badBook c)) e
       ∙ sym (list-own c)
 
+-- and so is a summary
+module _ (i timeslot : ℕ) where
+  abbrev glanceTable : Bool → Seat → Refusals
+  glanceTable bad s =
+      (5, badTimeslot timeslot) ∷ (12, bad) ∷ (13, badSeat i) ∷ (14, not (s .live)) ∷ []
+
+  abbrev ownGlance : Bool → Seat → Answer Glance
+  ownGlance bad s =
+      answer (firstOf (glanceTable bad s)) (glanceOf (slotOf timeslot (bookings s)))
+
+  summary-own : (b : Book) → summaryAnswer b i timeslot ≡ ownGlance (badBook b) (seatOf b i)
+  unfolding summaryAnswer summaryRefusals seatRefusals notOpen
+  summary-own b = refl
+
+  same-glance : (b c : Book) → Good b → Good c → seatOf b i ≡ seatOf c i
+      → summaryAnswer b i timeslot ≡ summaryAnswer c i timeslot
+  unfolding badBook
+  same-glance b c g h e =
+      summary-own b
+      ∙ ap (λ (ok : Bool). ownGlance (not ok) (seatOf b i)) (g .ok ∙ sym (h .ok))
+      ∙ ap (ownGlance (badBook c)) e
+      ∙ sym (summary-own c)
+
 module _ (i : ℕ) (ts : List TurnOverC) where
   abbrev vs : List Turn
   vs = askedTurns ts
@@ -171,6 +200,16 @@ module _ (i : ℕ) (ts : List TurnOverC) where
       (same-outcome i lent lone crowd lone-good crowd-good same-seat)
       ∙ ap (λ (b : Book). listed (outcomeAsC (recordsOutcome b i lent))) (sym (bytes-say ts))
 
+  same-summary : (timeslot : ℕ)
+      → replyOverC (bytesAfter alone) i (glances timeslot)
+      ≡ replyOverC (bytesAfter ts) i (glances timeslot)
+  unfolding replyOverC
+  same-summary timeslot =
+      ap (λ (b : Book). summed (summaryAsC (summaryAnswer b i timeslot))) (bytes-say alone)
+      ∙ ap (λ (a : Answer Glance). summed (summaryAsC a))
+      (same-glance i timeslot lone crowd lone-good crowd-good same-seat)
+      ∙ ap (λ (b : Book). summed (summaryAsC (summaryAnswer b i timeslot))) (sym (bytes-say ts))
+
   as-if-alone : AsIfAloneOverC i ts
   as-if-alone =
       record {
@@ -178,6 +217,7 @@ module _ (i : ℕ) (ts : List TurnOverC) where
         same-plan = ap planOf said-seat;
         same-bytes = same-bytes;
         same-list = same-list;
+        same-summary = same-summary;
       }
 
 pub demand-3-over-c : (ts : List TurnOverC) → Demand3OverC ts

@@ -11,10 +11,12 @@ use Rattle.mqarbset.proofs.book.mq_book_value.Reads as book-value
 use Rattle.mqarbset.proofs.book.mq_cancel_value.Reads as cancel-value
 use Rattle.mqarbset.proofs.book.mq_close_value.Reads as close-value
 use Rattle.mqarbset.proofs.book.mq_list_bytes.Reads as list-bytes
+use Rattle.mqarbset.proofs.book.mq_summary_value.Reads as summary-value
 use Rattle.mqarbset_book.specs.declared.MqBook.{MqBook}
 use Rattle.mqarbset_book.specs.declared.MqBookAnswer.{MqBookAnswer}
 use Rattle.demand_over_c.specs.LessonOverC.{CallOverC, opens, books, cancels, closes, lists}
-use Rattle.demand_over_c.specs.LessonOverC.{number, listed, replyOverC, nextOverC, emptyBytes}
+use Rattle.demand_over_c.specs.LessonOverC.{glances, number, listed, summed, replyOverC}
+use Rattle.demand_over_c.specs.LessonOverC.{nextOverC, emptyBytes}
 
 -- the lesson starts on what mq_empty_book hands out
 pub start-is-empty : (κs : _) (a : _) (r : _) (s : _) → empty.Post κs a r s → r ≡ emptyBytes
@@ -60,3 +62,10 @@ pub list-is-turn : (κs : _) (a : _) (r : _) (s : _) → list-bytes.Post κs a r
     → listed (r, now (s .1 .1 .0)) ≡ replyOverC (a .0) (a .1 .0) (lists (now (a .1 .1 .0)))
 unfolding replyOverC
 list-is-turn κs a r s p = ap listed p
+
+-- and of a summary the struct
+pub summary-is-turn : (m : MqBook) (seat timeslot : ℕ) (κs : _) (r : _) (s : _)
+    → summary-value.Post κs (m, (seat, (timeslot, tt))) r s
+    → summed r ≡ replyOverC m seat (glances timeslot)
+unfolding replyOverC
+summary-is-turn m seat timeslot κs r s p = ap summed p

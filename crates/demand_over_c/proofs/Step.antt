@@ -1,6 +1,7 @@
 -- One call over C on any bytes: what they say afterwards is the book that the call by value leaves,
--- proper bytes stay proper, a refused call leaves every byte, and the reply is that of the call by
--- value. Cited by Turns, Untouched and DemandOverC. Assumes nothing.
+-- proper bytes stay proper, bytes that come back when they are read and written again stay such, a
+-- refused call leaves every byte, and the reply is that of the call by value. Cited by Turns,
+-- Untouched and DemandOverC. Assumes nothing.
 use mathlib.Core.Path.{_≡_, refl, sym, ap, _∙_}
 use mathlib.Core.Logic.{⊎-elim}
 use mathlib.Core.Bool.{Bool, true, false, cond}
@@ -24,6 +25,7 @@ use Rattle.listing.specs.Listing.{fewRecords, listRefusals, listOutcome}
 use Rattle.demand.specs.Lesson.{Reply, reply, numberOf, next}
 use Rattle.demand.specs.Lesson as value
 use Rattle.mqarbset_answers.specs.Answers.{answerAsC, outcomeAsC}
+use Rattle.mqarbset_answers.specs.Summaries.{summaryAsC}
 use Rattle.mqarbset_book.specs.declared.MqBook.{MqBook}
 use Rattle.mqarbset_book.specs.declared.MqBookAnswer.{MqBookAnswer}
 use Rattle.mqarbset_book.specs.Mirror.{proper, readBook, writeBook}
@@ -32,8 +34,8 @@ use Rattle.mqarbset_book.proofs.Kept.{written-proper, kept}
 use Rattle.mqarbset_book.proofs.Neither.{request, book-over}
 use Rattle.mqarbset_list.specs.Records.{recordsOf, recordsRefusals, recordsOutcome}
 use Rattle.demand_over_c.specs.LessonOverC.{CallOverC, opens, books, cancels, closes, lists}
-use Rattle.demand_over_c.specs.LessonOverC.{bookOverC, ReplyOverC, number, listed, replyOverC}
-use Rattle.demand_over_c.specs.LessonOverC.{refusalOf, nextOverC}
+use Rattle.demand_over_c.specs.LessonOverC.{glances, bookOverC, ReplyOverC, number, listed}
+use Rattle.demand_over_c.specs.LessonOverC.{replyOverC, refusalOf, nextOverC}
 use Rattle.demand_over_c.specs.ByValue.{recordsLent, asked, lentBy, told}
 
 -- ---- what is handed back for the bytes m: n is the first refusal's number, made what the call made
@@ -70,6 +72,20 @@ module _ (m : MqBook) (n : ℕ) (made : Book) where
       (λ t. ap proper (back-made (eqb-true n 0 t)) ∙ written-proper made)
       (λ f. ap proper (back-refused (eqb-false n 0 f)) ∙ p)
       (by-cases (eqb n 0))
+
+  back-again : writeBook (readBook m) ≡ m → writeBook (readBook (back .book)) ≡ back .book
+  back-again e =
+      ⊎-elim
+      (λ t. answered-so (back-made (eqb-true n 0 t)))
+      (λ f. refused-so (back-refused (eqb-false n 0 f)))
+      (by-cases (eqb n 0))
+    where
+      answered-so : back .book ≡ writeBook made → writeBook (readBook (back .book)) ≡ back .book
+      answered-so h =
+          ap (λ (r : MqBook). writeBook (readBook r)) h ∙ ap writeBook (kept made) ∙ sym h
+
+      refused-so : back .book ≡ m → writeBook (readBook (back .book)) ≡ back .book
+      refused-so h = ap (λ (r : MqBook). writeBook (readBook r)) h ∙ e ∙ sym h
 
 -- ---- a list, of the book that the bytes say
 module _ (b : Book) (i : ℕ) (lent : List ℕ) where
@@ -136,6 +152,7 @@ module _ (m : MqBook) (i : ℕ) where
   reads-next (cancels timeslot factor index) = back-reads m _ _
   reads-next closes = back-reads m _ _
   reads-next (lists lent) = refl
+  reads-next (glances timeslot) = refl
 
   -- proper bytes stay proper
   pub proper-next : (c : CallOverC) → proper m ≡ true → proper (nextOverC m i c) ≡ true
@@ -145,6 +162,18 @@ module _ (m : MqBook) (i : ℕ) where
   proper-next (cancels timeslot factor index) p = back-proper m _ _ p
   proper-next closes p = back-proper m _ _ p
   proper-next (lists lent) p = p
+  proper-next (glances timeslot) p = p
+
+  -- bytes that come back when they are read and written again stay such
+  pub again-next : (c : CallOverC) → writeBook (readBook m) ≡ m
+      → writeBook (readBook (nextOverC m i c)) ≡ nextOverC m i c
+  unfolding nextOverC openAnswer bookAnswerOverC cancelAnswer closeAnswer
+  again-next (opens cell case k long short) e = back-again m _ _ e
+  again-next (books timeslot direction burst factor index user tfci tpc) e = back-again m _ _ e
+  again-next (cancels timeslot factor index) e = back-again m _ _ e
+  again-next closes e = back-again m _ _ e
+  again-next (lists lent) e = e
+  again-next (glances timeslot) e = e
 
   -- a refused call leaves every byte
   pub refused-leaves : (c : CallOverC)
@@ -156,6 +185,7 @@ module _ (m : MqBook) (i : ℕ) where
   refused-leaves (cancels timeslot factor index) h = back-refused m _ _ h
   refused-leaves closes h = back-refused m _ _ h
   refused-leaves (lists lent) h = refl
+  refused-leaves (glances timeslot) h = refl
 
   -- the reply is that of the call by value
   pub replies : (c : CallOverC)
@@ -168,13 +198,16 @@ module _ (m : MqBook) (i : ℕ) where
   replies (cancels timeslot factor index) = refl
   replies closes = refl
   replies (lists lent) = list-told (readBook m) i lent
+  replies (glances timeslot) = refl
 
   -- in particular its number is
   told-number : (lent : List ℕ) (r : Reply) → refusalOf (told lent r) ≡ numberOf r
-  unfolding told refusalOf numberOf outcomeAsC answerAsC
+  unfolding told refusalOf numberOf outcomeAsC answerAsC summaryAsC
   told-number lent (value.number n) = refl
   told-number lent (value.listed (refused n leaving records)) = refl
   told-number lent (value.listed (answered n leaving records)) = refl
+  told-number lent (value.summed (refused n)) = refl
+  told-number lent (value.summed (answered g)) = refl
 
   pub same-refusal : (c : CallOverC)
       → refusalOf (replyOverC m i c) ≡ numberOf (reply (readBook m) i (asked c))

@@ -11,13 +11,14 @@ use Rattle.classbook.specs.declared.Book.{Book}
 use Rattle.demand.specs.Lesson.{Reply, reply, numberOf, next, runThrough, Line, log, turns}
 use Rattle.demand.specs.Demand.{stays, kept}
 use Rattle.mqarbset_book.specs.declared.MqBook.{MqBook}
-use Rattle.mqarbset_book.specs.Mirror.{proper, readBook}
+use Rattle.mqarbset_book.specs.Mirror.{proper, readBook, writeBook}
 use Rattle.demand_over_c.specs.LessonOverC.{TurnOverC, ReplyOverC, replyOverC, refusalOf}
 use Rattle.demand_over_c.specs.LessonOverC.{nextOverC, runOverC, LineOverC, logOverC}
 use Rattle.demand_over_c.specs.LessonOverC.{turnsOverC}
 use Rattle.demand_over_c.specs.ByValue.{asked, askedTurn, askedTurns, lentBy, told, toldLines}
 use Rattle.demand_over_c.specs.DemandOverC.{staysOverC, keptOverC}
-use Rattle.demand_over_c.proofs.Step.{reads-next, proper-next, replies, same-refusal}
+use Rattle.demand_over_c.proofs.Step.{reads-next, proper-next, again-next, replies}
+use Rattle.demand_over_c.proofs.Step.{same-refusal}
 
 -- proper bytes stay proper
 pub run-proper : (ts : List TurnOverC) (m : MqBook)
@@ -25,6 +26,13 @@ pub run-proper : (ts : List TurnOverC) (m : MqBook)
 unfolding runOverC
 run-proper [] m p = p
 run-proper (t ∷ ts) m p = run-proper ts _ (proper-next m (t .seat) (t .call) p)
+
+-- and bytes that come back when they are read and written again stay such
+pub run-again : (ts : List TurnOverC) (m : MqBook) → writeBook (readBook m) ≡ m
+    → writeBook (readBook (runOverC m ts)) ≡ runOverC m ts
+unfolding runOverC
+run-again [] m e = e
+run-again (t ∷ ts) m e = run-again ts _ (again-next m (t .seat) (t .call) e)
 
 -- the bytes m say the book b
 module _ (m : MqBook) (b : Book) (says : readBook m ≡ b) (t : TurnOverC) where

@@ -13,6 +13,7 @@ use Rattle.laws.proofs.Bools.{true-false}
 use Rattle.laws.proofs.Lists.{by-cases, both, hd, tl}
 use Rattle.refusals.specs.Refusals.{firstOf}
 use Rattle.refusals.proofs.First.{first-none}
+use Rattle.conditions.specs.Conditions.{badTimeslot}
 use Rattle.seats.specs.declared.Seat.{Seat}
 use Rattle.seats.specs.Seats.{closed}
 use Rattle.classbook.specs.declared.Book.{Book}
@@ -20,9 +21,11 @@ use Rattle.classbook.specs.Book.{seatOf, bookOk}
 use Rattle.classbook.specs.Calls.{openAnswer, bookAnswer, cancelAnswer, seatRefusals, closeAnswer}
 use Rattle.classbook.proofs.Passed.{open-passed, book-passed, cancel-passed, seat-passed}
 use Rattle.listing.specs.Listing.{fewRecords, listRefusals}
-use Rattle.demand.specs.Lesson.{Call, opens, books, cancels, closes, lists, reply, numberOf, next}
+use Rattle.summaries.specs.Summaries.{summaryRefusals}
+use Rattle.demand.specs.Lesson.{Call, opens, books, cancels, closes, lists, glances, reply}
+use Rattle.demand.specs.Lesson.{numberOf, next}
 use Rattle.demand.proofs.Seats.{every-place}
-use Rattle.demand.proofs.Own.{list-number}
+use Rattle.demand.proofs.Own.{list-number, summary-number}
 use Rattle.demand.proofs.Books.{Good, next-good, next-apart}
 use Rattle.mqarbset_book.specs.declared.MqSeat.{MqSeat}
 use Rattle.mqarbset_book.specs.declared.MqBook.{MqBook}
@@ -32,12 +35,12 @@ use Rattle.demand_over_c.specs.Bytes.{partOf, Whole}
 use Rattle.demand_over_c.specs.LessonOverC.{CallOverC, replyOverC, refusalOf, nextOverC}
 use Rattle.demand_over_c.specs.ByValue.{asked}
 use Rattle.demand_over_c.proofs.Mirrored.{written-back}
-use Rattle.demand_over_c.proofs.Step.{reads-next, proper-next, refused-leaves, same-refusal}
+use Rattle.demand_over_c.proofs.Step.{reads-next, again-next, refused-leaves, same-refusal}
 use Rattle.demand_over_c.proofs.Parts.{same-part}
 
 -- a call that is not refused was asked of a book that meets its conditions
 accepted-ok : (b : Book) (i : ℕ) (c : Call) → numberOf (reply b i c) ≡ 0 → bookOk b ≡ true
-unfolding reply numberOf openAnswer bookAnswer cancelAnswer closeAnswer listRefusals
+unfolding reply numberOf openAnswer bookAnswer cancelAnswer closeAnswer listRefusals summaryRefusals
 accepted-ok b i (opens cell case k long short) z = open-passed b i cell case k long short z .valid
 accepted-ok b i (books x) z = book-passed b i x z .booking .valid
 accepted-ok b i (cancels timeslot factor index) z = cancel-passed b i timeslot factor index z .valid
@@ -46,6 +49,11 @@ accepted-ok b i (lists lent) z = seat-passed b i (seat-part (sym (list-number b 
   where
     seat-part : firstOf (listRefusals b i lent) ≡ 0 → firstOf (seatRefusals b i) ≡ 0
     seat-part e = first-none 10 (fewRecords lent) (seatRefusals b i) e .1
+accepted-ok b i (glances timeslot) z =
+    seat-passed b i (seat-part (sym (summary-number b i timeslot) ∙ z)) .valid
+  where
+    seat-part : firstOf (summaryRefusals b i timeslot) ≡ 0 → firstOf (seatRefusals b i) ≡ 0
+    seat-part e = first-none 4 (badTimeslot timeslot) (seatRefusals b i) e .1
 
 -- forty places in each seat that the bytes say
 module _ (m : MqBook) (p : proper m ≡ true) (w : Whole m) where
@@ -94,10 +102,11 @@ module _ (m : MqBook) (w : Whole m) (i : ℕ) (c : CallOverC) (j : ℕ) (apart :
       let b = readBook m in
       let after = next b i (asked c) in
       let g = said-good m p w (said-ok z) in
-      ap (λ (n : MqBook). partOf n j) (sym (written-back (nextOverC m i c) (proper-next m i c p)))
+      let again = written-back m p w in
+      ap (λ (n : MqBook). partOf n j) (sym (again-next m i c again))
       ∙ ap (λ (d : Book). partOf (writeBook d) j) (reads-next m i c)
       ∙ same-part after b (next-good b i (asked c) g) g j (next-apart b i (asked c) j apart)
-      ∙ ap (λ (n : MqBook). partOf n j) (written-back m p)
+      ∙ ap (λ (n : MqBook). partOf n j) again
 
   refused : (refusalOf (replyOverC m i c) ≡ 0 → ⊥) → partOf (nextOverC m i c) j ≡ partOf m j
   refused h = ap (λ (n : MqBook). partOf n j) (refused-leaves m i c h)

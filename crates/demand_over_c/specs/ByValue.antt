@@ -12,11 +12,13 @@ use Rattle.seats.specs.Seats.{blank}
 use Rattle.demand.specs.Lesson.{Call, Turn, Reply, Line}
 use Rattle.demand.specs.Lesson as value
 use Rattle.mqarbset_answers.specs.Answers.{outcomeAsC}
+use Rattle.mqarbset_answers.specs.Summaries.{summaryAsC}
 use Rattle.mqarbset_book.specs.Mirror.{readDirection}
 use Rattle.mqarbset_book.specs.Inside.{factorBeside}
 use Rattle.mqarbset_list.specs.Records.{recordsOf}
 use Rattle.demand_over_c.specs.LessonOverC.{CallOverC, opens, books, cancels, closes, lists}
-use Rattle.demand_over_c.specs.LessonOverC.{TurnOverC, ReplyOverC, number, listed, LineOverC}
+use Rattle.demand_over_c.specs.LessonOverC.{glances, TurnOverC, ReplyOverC, number, listed}
+use Rattle.demand_over_c.specs.LessonOverC.{summed, LineOverC}
 
 -- the records that a list by value is lent: forty, where the lent bytes have room for them
 unfoldable pub recordsLent : List ℕ → List Booking
@@ -40,6 +42,7 @@ asked (books timeslot direction burst factor index user tfci tpc) =
 asked (cancels timeslot factor index) = value.cancels timeslot factor index
 asked closes = value.closes
 asked (lists lent) = value.lists (recordsLent lent)
+asked (glances timeslot) = value.glances timeslot
 
 -- the turns by value
 unfoldable pub askedTurn : TurnOverC → Turn
@@ -55,14 +58,16 @@ lentBy (books timeslot direction burst factor index user tfci tpc) = []
 lentBy (cancels timeslot factor index) = []
 lentBy closes = []
 lentBy (lists lent) = lent
+lentBy (glances timeslot) = []
 
 -- a reply by value, over C: the same number; of a list the same count, and the bookings that it
--- wrote as records of eight bytes at the front of the lent bytes
+-- wrote as records of eight bytes at the front of the lent bytes; of a summary the struct
 unfoldable pub told : List ℕ → Reply → ReplyOverC
 told lent (value.number n) = number n
 told lent (value.listed (refused n leaving records)) = listed (outcomeAsC (refused n leaving lent))
 told lent (value.listed (answered n leaving records)) =
     listed (outcomeAsC (answered n leaving (recordsOf (take n records) ++ drop (8 * n) lent)))
+told lent (value.summed a) = summed (summaryAsC a)
 
 -- turns over C with the replies of a log by value
 unfoldable pub toldLines : List TurnOverC → List Line → List LineOverC

@@ -12,9 +12,9 @@ use Rattle.demand.specs.Demand.{holds}
 use Rattle.mqarbset_book.specs.declared.MqBook.{MqBook}
 use Rattle.mqarbset_book.specs.Mirror.{proper, readBook}
 use Rattle.demand_over_c.specs.Bytes.{partOf}
-use Rattle.demand_over_c.specs.LessonOverC.{CallOverC, lists, TurnOverC, replyOverC}
-use Rattle.demand_over_c.specs.LessonOverC.{refusalOf, runOverC, LineOverC, logOverC}
-use Rattle.demand_over_c.specs.LessonOverC.{turnsOverC, emptyBytes}
+use Rattle.demand_over_c.specs.LessonOverC.{CallOverC, lists, glances, TurnOverC}
+use Rattle.demand_over_c.specs.LessonOverC.{replyOverC, refusalOf, runOverC, LineOverC}
+use Rattle.demand_over_c.specs.LessonOverC.{logOverC, turnsOverC, emptyBytes}
 
 -- the bytes after a lesson
 abbrev pub bytesAfter : List TurnOverC → MqBook
@@ -57,8 +57,9 @@ abbrev pub aloneOverC : ℕ → List TurnOverC → List TurnOverC
 aloneOverC i ts = turnsOverC (leftOverC i ts)
 
 -- "the rest of that learner's calls, made alone on an empty book, get the same answers": every
--- number, and of every list the struct and the lent bytes; "and leave the same plan": the same
--- bytes of the seat too, and the same list afterwards, whatever is lent for it
+-- number, of every list the struct and the lent bytes, and of every summary the struct; "and leave
+-- the same plan": the same bytes of the seat too, the same list afterwards, whatever is lent for
+-- it, and the same summary of every timeslot
 pub record AsIfAloneOverC (i : ℕ) (ts : List TurnOverC) : Type 0 where
   pub same-answers : logOverC emptyBytes (aloneOverC i ts) ≡ leftOverC i ts
   pub same-plan : planOf (seatOf (bookSaid (aloneOverC i ts)) i) ≡ planOf (seatOf (bookSaid ts) i)
@@ -66,6 +67,9 @@ pub record AsIfAloneOverC (i : ℕ) (ts : List TurnOverC) : Type 0 where
   pub same-list : (lent : List ℕ)
       → replyOverC (bytesAfter (aloneOverC i ts)) i (lists lent)
       ≡ replyOverC (bytesAfter ts) i (lists lent)
+  pub same-summary : (timeslot : ℕ)
+      → replyOverC (bytesAfter (aloneOverC i ts)) i (glances timeslot)
+      ≡ replyOverC (bytesAfter ts) i (glances timeslot)
 
 -- Demand 3, of one lesson over C; its bytes are proper, so that what they say is what they hold
 pub record Demand3OverC (ts : List TurnOverC) : Type 0 where

@@ -6,8 +6,11 @@ use mathlib.Core.List.{List, [], _∷_, map}
 use Prim.Native.Nat.{ℕ}
 use Rattle.classbook.specs.Book.{emptyBook}
 use Rattle.classbook.specs.Calls.{openAnswer, cancelAnswer, closeAnswer}
+use Rattle.summaries.specs.Summaries.{summaryAnswer}
 use Rattle.mqarbset_answers.specs.declared.MqAnswer.{MqAnswer}
+use Rattle.mqarbset_answers.specs.declared.at_a_glance.MqSummary.{MqSummary}
 use Rattle.mqarbset_answers.specs.Answers.{outcomeAsC}
+use Rattle.mqarbset_answers.specs.Summaries.{summaryAsC}
 use Rattle.mqarbset_book.specs.declared.MqBook.{MqBook}
 use Rattle.mqarbset_book.specs.declared.MqBookAnswer.{MqBookAnswer}
 use Rattle.mqarbset_book.specs.Mirror.{readBook, writeBook}
@@ -21,6 +24,7 @@ pub data CallOverC : Type 0 where
   cancels : (timeslot factor index : ℕ) → CallOverC
   closes : CallOverC
   lists : (lent : List ℕ) → CallOverC
+  glances : (timeslot : ℕ) → CallOverC
 
 -- a learner, who is known by the seat and names no other, makes a call
 pub record TurnOverC : Type 0 where
@@ -49,10 +53,16 @@ module _ (m : MqBook) (seat : ℕ) where
   abbrev pub listOverC : List ℕ → MqAnswer × List ℕ
   listOverC lent = outcomeAsC (recordsOutcome (readBook m) seat lent)
 
--- what the learner gets: the refusal's number, or 0; of a list the struct and the lent bytes after it
+  -- and mq_summary_value
+  abbrev pub summaryOverC : ℕ → MqSummary
+  summaryOverC timeslot = summaryAsC (summaryAnswer (readBook m) seat timeslot)
+
+-- what the learner gets: the refusal's number, or 0; of a list the struct and the lent bytes after
+-- it; of a summary the struct
 pub data ReplyOverC : Type 0 where
   number : ℕ → ReplyOverC
   listed : MqAnswer × List ℕ → ReplyOverC
+  summed : MqSummary → ReplyOverC
 
 unfoldable pub replyOverC : MqBook → ℕ → CallOverC → ReplyOverC
 replyOverC m seat (opens cell case k long short) =
@@ -63,13 +73,15 @@ replyOverC m seat (cancels timeslot factor index) =
     number (cancelOverC m seat timeslot factor index .refusal)
 replyOverC m seat closes = number (closeOverC m seat .refusal)
 replyOverC m seat (lists lent) = listed (listOverC m seat lent)
+replyOverC m seat (glances timeslot) = summed (summaryOverC m seat timeslot)
 
 -- the number with which a reply refuses, or 0
 unfoldable pub refusalOf : ReplyOverC → ℕ
 refusalOf (number n) = n
 refusalOf (listed r) = r .0 .refusal
+refusalOf (summed r) = r .refusal
 
--- the bytes that a call leaves; a list leaves them as they are
+-- the bytes that a call leaves; a list and a summary leave them as they are
 unfoldable pub nextOverC : MqBook → ℕ → CallOverC → MqBook
 nextOverC m seat (opens cell case k long short) = openOverC m seat cell case k long short .book
 nextOverC m seat (books timeslot direction burst factor index user tfci tpc) =
@@ -77,6 +89,7 @@ nextOverC m seat (books timeslot direction burst factor index user tfci tpc) =
 nextOverC m seat (cancels timeslot factor index) = cancelOverC m seat timeslot factor index .book
 nextOverC m seat closes = closeOverC m seat .book
 nextOverC m seat (lists lent) = m
+nextOverC m seat (glances timeslot) = m
 
 -- the bytes after all turns of a lesson
 unfoldable pub runOverC : MqBook → List TurnOverC → MqBook

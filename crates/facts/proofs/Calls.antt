@@ -27,6 +27,7 @@ use Rattle.classbook.specs.Calls.{openRefusals, openAnswer, requestRefusals, bo
 use Rattle.classbook.specs.Calls.{bookRefusals, bookAnswer}
 use Rattle.classbook.specs.Calls.{cancelRefusals, cancelAnswer, seatRefusals, closeAnswer}
 use Rattle.listing.specs.Listing.{listRefusals, listOutcome}
+use Rattle.summaries.specs.Summaries.{summaryRefusals, summaryAnswer}
 use Rattle.facts.specs.Orders.{numbersOf, ascending, Exactly, answerOf, bookReply}
 use Rattle.facts.proofs.Replies.{exactly}
 
@@ -164,6 +165,13 @@ module _ (b : Book) (seat : ℕ) where
       (answerOf (listOutcome b seat out))
   unfolding answerOf listOutcome listRefusals seatRefusals numbersOf ascending chain
   list-exactly out = exactly _ (listRefusals b seat out) _ refl refl
+
+  -- document 02, C-16: "Refusals: 5, 12, 13, 14 as they stand."
+  pub summary-exactly : (timeslot : ℕ)
+      → Exactly (5 ∷ 12 ∷ 13 ∷ 14 ∷ []) (summaryRefusals b seat timeslot)
+      (summaryAnswer b seat timeslot)
+  unfolding summaryAnswer summaryRefusals seatRefusals numbersOf ascending chain
+  summary-exactly timeslot = exactly _ (summaryRefusals b seat timeslot) _ refl refl
 
 -- ---- the tables that calls begin with ascend too: `parts` has its own, and these are read alone
 -- where a user, a stored booking or a stored seat's settings are looked at

@@ -2,52 +2,30 @@
 -- and number of leaves; and where it is, all leaves of one code are leaves of the other. Cited by
 -- Clashes; else it is for the reader. Assumes nothing.
 use mathlib.Core.Path.{_≡_}
-use mathlib.Core.Bool.{true, _||_}
-use mathlib.Core.List.{[], _∷_}
+use mathlib.Core.Bool.{true}
 use mathlib.Core.Logic.{_↔_, _⊎_, inl, inr, ⊎-elim}
 use Prim.Native.Nat.{ℕ, _+_, _-_, _*_, _/_, _<_, _≤_}
 use native.Mathlib.Omega.{arith}
-use lib.Dec.{ltb, lit≤}
-use borrow.Author.Tests.{ltb-true, ltb-false, lt-ltb, not-false}
-use Rattle.laws.proofs.Bools.{and-true, both, or-false}
-use Rattle.laws.proofs.Cases.{below-or-not, one-of}
-use Rattle.refusals.proofs.First.{first-none}
-use Rattle.conditions.specs.Conditions.{badFactor, badCode, badDownFactor}
-use Rattle.tables.specs.Tables.{formRefusals}
+use lib.Dec.{ltb}
+use borrow.Author.Tests.{ltb-true, lt-ltb}
+use Rattle.laws.proofs.Bools.{and-true, both}
+use Rattle.laws.proofs.Cases.{below-or-not}
 use Rattle.bookings.specs.declared.Booking.{Booking}
-use Rattle.bookings.specs.Bookings.{formOf, leavesOf, firstLeaf, leaf, overlaps}
+use Rattle.leaves.specs.Leaves.{leavesOf, firstLeaf}
+use Rattle.leaves.proofs.Masks.{covered, of-five}
+use Rattle.bookings.specs.Bookings.{formOf, leaf, overlaps}
+use Rattle.bookings.proofs.Formed.{formed}
 use Rattle.facts.specs.Codes.{Good, Covers, SharedLeaf, Inside}
 
--- ---- a good code
-module _ (Q k : ℕ) (good : Good Q k) where
-  -- what holds of each of the five factors holds of its own
-  of-five : (P : ℕ → Type 0) → P 1 → P 2 → P 4 → P 8 → P 16 → P Q
-  unfolding badCode badFactor
-  of-five P a b c d e =
-      let f = or-false (badFactor Q) (ltb k 1 || ltb Q k) good .0 in
-      one-of P Q 1 (2 ∷ 4 ∷ 8 ∷ 16 ∷ []) (a, (b, (c, (d, (e, tt))))) (not-false _ f)
+-- ---- a good code covers a leaf at least
+leaves-low : (Q k : ℕ) → Good Q k → 1 ≤ 16 / Q
+unfolding leavesOf
+leaves-low Q k good = covered Q k good .one-least
 
-  index-good : (1 ≤ k) × (k ≤ Q)
-  unfolding badCode
-  index-good =
-      let i = or-false (ltb k 1) (ltb Q k) (or-false (badFactor Q) (ltb k 1 || ltb Q k) good .1) in
-      (ltb-false k 1 (i .0), ltb-false Q k (i .1))
-
-  -- it covers a leaf at least
-  leaves-low : 1 ≤ 16 / Q
-  leaves-low =
-      of-five (λ q. 1 ≤ 16 / q) (lit≤ tt) (lit≤ tt) (lit≤ tt) (lit≤ tt) (lit≤ tt)
-
-  leaves-high : (k - 1) * (16 / Q) + 16 / Q ≤ 16
-  leaves-high =
-      of-five (λ q. 1 ≤ k → k ≤ q → (k - 1) * (16 / q) + 16 / q ≤ 16) (λ a b. omega arith)
-      (λ a b. omega arith) (λ a b. omega arith) (λ a b. omega arith) (λ a b. omega arith)
-      (index-good .0) (index-good .1)
-
-  -- and none but the leaves 0 to 15
-  pub covers-leaves : (l : ℕ) → Covers Q k l → l ≤ 15
-  unfolding Covers
-  covers-leaves l c = omega (arith, c .1, leaves-high)
+-- and none but the leaves 0 to 15
+pub covers-leaves : (Q k : ℕ) → Good Q k → (l : ℕ) → Covers Q k l → l ≤ 15
+unfolding Covers leavesOf firstLeaf
+covers-leaves Q k good l c = omega (arith, c .1, covered Q k good .ends)
 
 -- ---- two runs of leaves, m from a on and n from b on, where neither ends before the other begins
 meet : (a m b n : ℕ) → 1 ≤ m → 1 ≤ n → a < b + n → b < a + m
@@ -114,11 +92,7 @@ shared-inside Q k R j gq gr = (
 
 -- ---- two bookings of good codes, which every booking in form has
 pub form-good : (x : Booking) → formOf x ≡ 0 → Good (x .factor) (x .index)
-unfolding formOf formRefusals
-form-good x e =
-    let five = first-none 4 _ _ (first-none 3 _ _ (first-none 1 _ _ e .1) .1) in
-    let six = first-none 5 _ _ (five .1) in
-    or-false (badCode (x .factor) (x .index)) (badDownFactor (x .direction) (x .factor)) (six .0) .0
+form-good x e = formed x e .code-good
 
 module _ (x y : Booking) (gx : Good (x .factor) (x .index)) (gy : Good (y .factor) (y .index)) where
   -- "overlap is a shared leaf"

@@ -11,6 +11,7 @@ pub mod SignalCard
 pub mod Fields
 pub mod Room
 pub mod Lists
+pub mod Summaries
 pub mod Codes
 pub mod Clashes
 pub mod OldCounts

@@ -21,7 +21,8 @@ use Rattle.bookings.specs.Bookings.{leaf, key, clash, comes, fine}
 use Rattle.bookings.proofs.Formed.{Formed}
 use Rattle.seats.specs.Seats.{blank, held, bookings, standsIn}
 use Rattle.seats.proofs.Tested.{stands-formed}
-use Rattle.plans.proofs.Plans.{sound, plan-length}
+use Rattle.seats.proofs.Sound.{sound}
+use Rattle.plans.proofs.Plans.{plan-length}
 use Rattle.classbook.specs.declared.Book.{Book}
 use Rattle.classbook.specs.Book.{seatOf, bookOk}
 use Rattle.classbook.specs.Calls.{seatRefusals, listAnswer}

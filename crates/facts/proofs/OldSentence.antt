@@ -19,7 +19,7 @@ use Rattle.bookings.specs.Bookings.{overlaps, sameDirection, mixed, clash, come
 use Rattle.bookings.proofs.Types.{mixed-self}
 use Rattle.seats.specs.declared.Seat.{Seat}
 use Rattle.seats.specs.Seats.{bookings, bareOrGood, atMostForty, eachMayStand, noTwoClash}
-use Rattle.seats.specs.Seats.{isBare, restBlank, standsIn, seatOk}
+use Rattle.seats.specs.Seats.{isBare, restBlank, summaryAgrees, standsIn, seatOk}
 use Rattle.classbook.specs.declared.Book.{Book}
 use Rattle.classbook.specs.Book.{common, bookOk}
 use Rattle.facts.proofs.OldCounts.{oldGoodSettings, oldStandsIn, settings-then, stands-then}
@@ -41,7 +41,7 @@ unfoldable pub oldSeatOk : Seat → Bool
 oldSeatOk s =
     (isBare s || (s .live && oldGoodSettings s))
     && (atMostForty s
-    && (every (oldStandsIn s) (bookings s) && (pairs oldFine (bookings s) && restBlank s)))
+    && (every (oldStandsIn s) (bookings s) && (pairs oldFine (bookings s) && (restBlank s && summaryAgrees s))))
 
 unfoldable pub oldBookOk : Book → Bool
 oldBookOk b = every oldSeatOk (b .seats) && leb (common b) 80
@@ -135,7 +135,7 @@ seat-then s h =
     let a = and-true (isBare s || (s .live && oldGoodSettings s)) _ h in
     let b = and-true (atMostForty s) _ (a .1) in
     let c = and-true (every (oldStandsIn s) (bookings s)) _ (b .1) in
-    let d = and-true (pairs oldFine (bookings s)) (restBlank s) (c .1) in
+    let d = and-true (pairs oldFine (bookings s)) (restBlank s && summaryAgrees s) (c .1) in
     let g = settings-and-bookings s (a .0) (c .0) in
     let n : noTwoClash s ≡ true = pairs-more oldFine fine fine-then (bookings s) (d .0) in
     both _ _ (g .0) (both _ _ (b .0) (both _ _ (g .1) (both _ _ n (d .1))))

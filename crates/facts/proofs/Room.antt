@@ -20,7 +20,8 @@ use Rattle.seats.specs.Conditions.{notPermitted, clashesWith, offBeacon}
 use Rattle.seats.specs.Seats.{closed, held, bookings, without, withPlan}
 use Rattle.plans.specs.Inside.{placeNamed}
 use Rattle.plans.proofs.Named.{placed-or-none}
-use Rattle.plans.proofs.Plans.{sound, plan-length, with-plan-held, with-plan-bookings}
+use Rattle.seats.proofs.Sound.{sound}
+use Rattle.plans.proofs.Plans.{plan-length, with-plan-held, with-plan-bookings}
 use Rattle.plans.proofs.Cancelled.{cancelled-length, without-every}
 use Rattle.classbook.specs.declared.Book.{Book}
 use Rattle.classbook.specs.declared.Request.{Request}

@@ -3,7 +3,6 @@
 use mathlib.Core.List.{List, [], _∷_, _++_, map}
 use Prim.Native.Nat.{ℕ}
 use lib.ListN.{getD, take, drop, replicate}
-use Rattle.conditions.specs.declared.Direction.{Direction}
 use Rattle.conditions.specs.declared.Direction.the-variants.{Up, Down}
 use Rattle.code_text.specs.Rows.{longRows}
 use Rattle.codes.specs.Codes.{codeOf, shiftOf}
@@ -12,7 +11,6 @@ use Rattle.timeslots.specs.Calls.{partsAnswer}
 use Rattle.paging.specs.Calls.{indicatorAnswer}
 use Rattle.beacons.specs.Calls.{beaconAnswer}
 use Rattle.seats.specs.Seats.{blank}
-use Rattle.classbook.specs.declared.Book.{Book}
 use Rattle.classbook.specs.declared.Request.{Request}
 use Rattle.classbook.specs.declared.BookAnswer.{BookAnswer}
 use Rattle.classbook.specs.Book.{emptyBook}
@@ -63,8 +61,9 @@ secondBooking = bookAnswer (firstBooking .book) 3 (request 0 1 1)
 abbrev pub listOfSeat3 : List ℕ
 listOfSeat3 = listed (listOutcome (secondBooking .book) 3 (replicate 40 blank))
 
-unfoldable pub figures : List Row
-figures =
+-- the figures outside the book
+unfoldable pub numberFigures : List Row
+numberFigures =
     -- "Row 0 long begins 8DF6 hex: user 8's first eight chips are 1,0,1,2,1,2,1,0."
     (take 4 row0, 8 ∷ 13 ∷ 15 ∷ 6 ∷ []) ∷
     (chipsFrom 1, powers (1 ∷ 0 ∷ 1 ∷ 2 ∷ 1 ∷ 2 ∷ 1 ∷ 0 ∷ [])) ∷
@@ -101,7 +100,15 @@ figures =
     -- "Case 2, k 6: timeslots 6 and 14; k 7: 9. Case 1, k 14: answered."
     (shown (λ l. l) (beaconAnswer 2 6), given (6 ∷ 14 ∷ [])) ∷
     (whether (beaconAnswer 2 7), refusal 9) ∷
-    (whether (beaconAnswer 1 14), isAnswered) ∷
+    (whether (beaconAnswer 1 14), isAnswered) ∷ []
+
+-- those of the book
+unfoldable pub bookFigures : List Row
+bookFigures =
     -- Seat 3: the three calls before the list are not refused. "The list is: (0, down, 1, 16, 1, 1, 0, 0), (2, down, 1, 16, 3, 4, 0, 0); count 2."
     (opening .refusal ∷ firstBooking .refusal ∷ secondBooking .refusal ∷ [], 0 ∷ 0 ∷ 0 ∷ []) ∷
     (listOfSeat3, given (2 ∷ (0 ∷ 1 ∷ 1 ∷ 16 ∷ 1 ∷ 1 ∷ 0 ∷ 0 ∷ []) ++ (2 ∷ 1 ∷ 1 ∷ 16 ∷ 3 ∷ 4 ∷ 0 ∷ 0 ∷ []))) ∷ []
+
+-- the table
+unfoldable pub figures : List Row
+figures = numberFigures ++ bookFigures

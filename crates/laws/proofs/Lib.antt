@@ -6,3 +6,5 @@ pub mod Lists
 pub mod Rows
 pub mod Places
 pub mod Neighbours
+pub mod Some
+pub mod Matches

@@ -4,12 +4,12 @@ use mathlib.Core.Path.{_≡_, refl, sym, ap, _∙_}
 use mathlib.Core.List.{List, [], _∷_}
 use mathlib.Core.Bool.{Bool, true, false, cond}
 use mathlib.Core.Logic.{_⊎_, inl, inr}
-use Prim.Native.Nat.{ℕ, zero, suc, _+_, _<_}
-use native.Mathlib.Nat.{not-suc-le-zero, le-of-suc-le-suc}
+use Prim.Native.Nat.{ℕ, zero, suc, _+_, _≤_, _<_}
+use native.Mathlib.Nat.{not-suc-le-zero, le-of-suc-le-suc, suc-add}
 use native.Mathlib.Numerals.{one-add}
 use native.Mathlib.Omega.{arith}
-use lib.ListN.{length, set, getD}
-use Rattle.laws.specs.Lists.{every, pairs, total, one, insertAt}
+use lib.ListN.{length, take, set, getD}
+use Rattle.laws.specs.Lists.{every, pairs, total, one, insertAt, removeAt}
 use Rattle.laws.proofs.Bools.{true-false, and-true}
 pub use Rattle.laws.proofs.Bools.{both}
 pub use Rattle.laws.proofs.Cases.{by-cases}
@@ -32,6 +32,27 @@ module _ {A : Type 0} (p : A → Bool) where
   every-at (x ∷ l) zero d h e = hd x l e
   every-at (x ∷ l) (suc i) d h e = every-at l i d (le-of-suc-le-suc h) (tl x l e)
 
+  -- of the first so many, where it holds of the first few more
+  pub every-front : (l : List A) (i n : ℕ) → i ≤ n → every p (take n l) ≡ true → every p (take i l) ≡ true
+  unfolding every
+  every-front [] zero n h e = refl
+  every-front [] (suc i) zero h e = refl
+  every-front [] (suc i) (suc n) h e = refl
+  every-front (x ∷ l) zero n h e = refl
+  every-front (x ∷ l) (suc i) zero h e = absurd (not-suc-le-zero h)
+  every-front (x ∷ l) (suc i) (suc n) h e = cons x (take i l) (hd x (take n l) e) (every-front l i n (le-of-suc-le-suc h) (tl x (take n l) e))
+
+  -- and what follows from it
+  pub every-weaker : (q : A → Bool) → ((x : A) → p x ≡ true → q x ≡ true) → (l : List A) → every p l ≡ true → every q l ≡ true
+  unfolding every
+  every-weaker q h [] e = refl
+  every-weaker q h (x ∷ l) e = both (q x) (every q l) (h x (hd x l e)) (every-weaker q h l (tl x l e))
+
+  pub every-alike : (q : A → Bool) → ((x : A) → p x ≡ q x) → (l : List A) → every p l ≡ every q l
+  unfolding every
+  every-alike q h [] = refl
+  every-alike q h (x ∷ l) = rw (h x, every-alike q h l)
+
   pub every-set : (l : List A) (i : ℕ) (a : A) → every p l ≡ true → p a ≡ true → every p (set l i a) ≡ true
   every-set [] i a e q = e
   every-set (x ∷ l) zero a e q = cons a l q (tl x l e)
@@ -41,6 +62,18 @@ module _ {A : Type 0} (p : A → Bool) where
   every-insert zero a l e q = cons a l q e
   every-insert (suc n) a [] e q = cons a [] q e
   every-insert (suc n) a (x ∷ l) e q = cons x (insertAt n a l) (hd x l e) (every-insert n a l (tl x l e) q)
+
+-- and of those that are left where one is taken out
+pub every-remove : {A : Type 0} (p : A → Bool) (l : List A) (i : ℕ) → every p l ≡ true → every p (removeAt i l) ≡ true
+every-remove p [] zero e = e
+every-remove p [] (suc i) e = rw suc-add e
+every-remove p (x ∷ l) zero e = tl p x l e
+every-remove p (x ∷ l) (suc i) e = rw suc-add (cons p x (removeAt i l) (hd p x l e) (every-remove p l i (tl p x l e)))
+
+pub every-true : {A : Type 0} (l : List A) → every (λ x. true) l ≡ true
+unfolding every
+every-true [] = refl
+every-true (x ∷ l) = every-true l
 
 pub total-set : {A : Type 0} (f : A → ℕ) (l : List A) (i : ℕ) (a d : A) → i < length l → total f (set l i a) + f (getD l i d) ≡ total f l + f a
 unfolding total

@@ -21,6 +21,11 @@ module _ {A : Type 0} where
   every p [] = true
   every p (x ∷ l) = p x && every p l
 
+  -- the test holds of one at least
+  unfoldable pub some : (A → Bool) → List A → Bool
+  some p [] = false
+  some p (x ∷ l) = p x || some p l
+
   -- each stands in the relation to every later one
   unfoldable pub pairs : (A → A → Bool) → List A → Bool
   pairs r [] = true
@@ -31,6 +36,13 @@ module _ {A : Type 0} where
   chain r [] = true
   chain r (x ∷ []) = true
   chain r (x ∷ y ∷ l) = r x y && chain r (y ∷ l)
+
+  -- two lists as long as each other, each of the one in the relation to that at its place in the other
+  unfoldable pub matches : (A → A → Bool) → List A → List A → Bool
+  matches r [] [] = true
+  matches r [] (y ∷ m) = false
+  matches r (x ∷ l) [] = false
+  matches r (x ∷ l) (y ∷ m) = r x y && matches r l m
 
   -- the sum of what each counts
   unfoldable pub total : (A → ℕ) → List A → ℕ

@@ -1,2 +1,3 @@
 pub mod Replied
 pub mod Lent
+pub mod LeafDigits

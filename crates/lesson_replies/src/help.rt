@@ -11,6 +11,7 @@ pub fn help(out: &mut [u8; 4096], at: usize) -> usize {
             close SEAT                              ok\n\
             list SEAT                               list N, then N lines\n\
             \x20                                       SLOT up|down TYPE FACTOR INDEX USER TFCI TPC\n\
+            summary SEAT SLOT                       summary LEAVES up|down|none N, LEAVES being 16 digits with no blanks between\n\
             chip CELL TYPE COUNT USER I             chip P\n\
             midamble CELL TYPE COUNT USER           midamble and its chips, digits 0 to 3\n\
             block CELL TYPE COUNT USER PLACE LENGTH block N and N chips, those behind the first PLACE, as many as LENGTH bytes take\n\

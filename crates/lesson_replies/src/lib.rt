@@ -6,4 +6,5 @@ pub mod midamble_calls;
 pub mod paging_calls;
 pub mod replies;
 pub mod say;
+pub mod summary_calls;
 pub mod timeslot_calls;

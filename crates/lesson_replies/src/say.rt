@@ -113,6 +113,7 @@ pub fn expected(out: &mut [u8; 4096], at: usize, number: u64, call: u32) -> usiz
             cancel SEAT SLOT FACTOR INDEX\n\
             close SEAT\n\
             list SEAT\n\
+            summary SEAT SLOT\n\
             chip CELL TYPE COUNT USER I\n\
             midamble CELL TYPE COUNT USER\n\
             block CELL TYPE COUNT USER PLACE LENGTH\n\

@@ -17,13 +17,19 @@ use Rattle.beacons.specs.Beacons.{beaconsOf}
 use Rattle.beacons.specs.Calls.{beaconAnswer}
 use Rattle.paging.specs.Paging.{placeOf, Owner, reserved, owned}
 use Rattle.paging.specs.Calls.{indicatorAnswer, ownerAnswer, pageOutcome, readPageOutcome}
+use Rattle.slots.specs.declared.Way.{Way}
+use Rattle.slots.specs.declared.Way.the-variants.{Neither, Up, Down}
+use Rattle.slots.specs.Slots.{wayNumber}
 use Rattle.classbook.specs.declared.Book.{Book}
+use Rattle.summaries.specs.declared.Glance.{Glance}
+use Rattle.summaries.specs.Summaries.{summaryAnswer}
 use Rattle.mqarbset_list.specs.Records.{recordsOutcome}
 use Rattle.refusal_words.specs.Words.{putting, wordsOutcome}
 use Rattle.mqarbset_answers.specs.Answers.{answerAsC, outcomeAsC, answerInC}
-use Rattle.mqarbset_answers.specs.Slots.{partsAsC, partNumber, placeAsC, beaconsAsC, zipped, partsInC, placeInC, beaconsInC}
+use Rattle.mqarbset_answers.specs.Parts.{partsAsC, partNumber, placeAsC, beaconsAsC, zipped, partsInC, placeInC, beaconsInC}
 use Rattle.mqarbset_answers.specs.Pages.{indicatorAsC, ownerAsC, indicatorInC, ownerInC}
 use Rattle.mqarbset_answers.specs.Pairs.{pairAsC, pairInC}
+use Rattle.mqarbset_answers.specs.Summaries.{summaryAsC, wayOf, summaryInC}
 use Rattle.mqarbset_answers.specs.Blocks.{placeAsHeld, heldAsPlace, startAsC, startInC, blockAsC, blockOutcomeAsC, blockInC}
 use Rattle.mqarbset.specs.Calls.{partsAnswerOverC, atAnswerOverC}
 
@@ -156,3 +162,19 @@ beacons-back false false k l e = rw e
 pub read-beacon : (case k : ℕ) → beaconsInC (beaconsAsC (beaconAnswer case k)) ≡ beaconAnswer case k
 unfolding beaconsInC beaconsAsC beaconAnswer beaconsOf
 read-beacon case k = back beaconsAsC beaconsInC (λ m e. simp e) _ _ (λ _. beacons-back (eqb case 1) (eqb case 2) k _ refl)
+
+-- ---- a summary
+
+way-back : (w : Way) → wayOf (wayNumber w) ≡ w
+unfolding wayOf wayNumber
+way-back Up = refl
+way-back Down = refl
+way-back Neither = refl
+
+glance-back : (g : Glance) → summaryInC (summaryAsC (answered g)) ≡ answered g
+unfolding summaryInC summaryAsC
+glance-back g = ap (λ (w : Way). answered (record { leaves = g .leaves; way = w; count = g .count })) (way-back (g .way))
+
+pub read-summary : (b : Book) (seat timeslot : ℕ) → summaryInC (summaryAsC (summaryAnswer b seat timeslot)) ≡ summaryAnswer b seat timeslot
+unfolding summaryAnswer summaryInC summaryAsC
+read-summary b seat timeslot = back summaryAsC summaryInC (λ m e. simp e) _ _ (λ _. glance-back _)

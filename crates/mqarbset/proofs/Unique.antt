@@ -13,13 +13,14 @@ use Rattle.mqarbset.proofs.book.mq_open_value.Reads as opens
 use Rattle.mqarbset.proofs.book.mq_book_value.Reads as book
 use Rattle.mqarbset.proofs.book.mq_cancel_value.Reads as cancel
 use Rattle.mqarbset.proofs.book.mq_close_value.Reads as close
+use Rattle.mqarbset.proofs.book.mq_summary_value.Reads as summary
 use Rattle.mqarbset.proofs.by_block.mq_block_start.Reads as block-start
 use Rattle.mqarbset.proofs.by_block.mq_block_value.Reads as block
 use Rattle.mqarbset.proofs.pairs.mq_pair.Reads as pair
 use Rattle.mqarbset.proofs.pairs.mq_pairs.Reads as pairs
-use Rattle.mqarbset.proofs.slots.mq_parts.Reads as parts
-use Rattle.mqarbset.proofs.slots.mq_at.Reads as at
-use Rattle.mqarbset.proofs.slots.mq_beacon.Reads as beacon
+use Rattle.mqarbset.proofs.parts.mq_parts.Reads as parts
+use Rattle.mqarbset.proofs.parts.mq_at.Reads as at
+use Rattle.mqarbset.proofs.parts.mq_beacon.Reads as beacon
 use Rattle.mqarbset.proofs.pages.mq_indicator.Reads as indicator
 use Rattle.mqarbset.proofs.pages.mq_owner.Reads as owner
 use Rattle.mqarbset.proofs.version.mq_version.Reads as version
@@ -62,6 +63,12 @@ mq-pair-total κs a = tt
 
 pub mq-pair-unique : (κs : _) (a : _) (r r' : _) (s s' : _) → pair.Post κs a r s → pair.Post κs a r' s' → r ≡ r'
 mq-pair-unique κs a r r' s s' p q = p ∙ sym q
+
+pub mq-summary-value-total : (κs : _) (a : _) → summary.Pre κs a
+mq-summary-value-total κs a = tt
+
+pub mq-summary-value-unique : (κs : _) (a : _) (r r' : _) (s s' : _) → summary.Post κs a r s → summary.Post κs a r' s' → r ≡ r'
+mq-summary-value-unique κs a r r' s s' p q = p ∙ sym q
 
 pub mq-empty-book-total : (κs : _) (a : _) → empty.Pre κs a
 mq-empty-book-total κs a = tt

@@ -3,15 +3,19 @@ ghost use mathlib.Core.Path.{_≡_};
 ghost use Rattle.classbook.specs.Book.{emptyBook};
 ghost use Rattle.classbook.specs.Calls.{openAnswer, cancelAnswer, closeAnswer};
 ghost use Rattle.mqarbset_answers.specs.Answers.{outcomeAsC};
+ghost use Rattle.mqarbset_answers.specs.Summaries.{summaryAsC};
 ghost use Rattle.mqarbset_book.specs.Mirror.{readBook, writeBook};
 ghost use Rattle.mqarbset_book.specs.Calls.{handedBack, bookAnswerOverC};
 ghost use Rattle.mqarbset_list.specs.Records.{recordsOutcome};
+ghost use Rattle.summaries.specs.Summaries.{summaryAnswer};
 use classbook::Request;
 use mqarbset_answers::MqAnswer;
+use mqarbset_answers::at_a_glance::MqSummary;
 use mqarbset_book::MqBook;
 use mqarbset_book::MqBookAnswer;
 use mqarbset_book::MqBooking;
 use mqarbset_book::MqSeat;
+use mqarbset_book::MqSlot;
 
 // An empty book: no seat is open.
 #[no_mangle]
@@ -29,6 +33,14 @@ pub extern "C" fn mq_empty_book() -> MqBook
         tpc: 0,
     };
     let row = [none; 40];
+    let free = MqSlot {
+        low: 0,
+        high: 0,
+        way: 2,
+        count: 0,
+        second: 0,
+    };
+    let slots = [free; 15];
     let closed = MqSeat {
         live: 0,
         cell: 0,
@@ -38,6 +50,7 @@ pub extern "C" fn mq_empty_book() -> MqBook
         short: 0,
         count: 0,
         row,
+        slots,
     };
     let seats = [closed; 16];
     MqBook { seats }
@@ -127,4 +140,15 @@ pub extern "C" fn mq_list_bytes(b: MqBook, seat: u32, out: &mut [u8]) -> MqAnswe
     ensures { λ r. ⌜ (r, now (out .exit)) ≡ outcomeAsC (recordsOutcome (readBook b) seat (now (out .entry))) ⌝ }
 {
     mqarbset_list::list(b, seat, out)
+}
+
+// Which codes of a timeslot a seat has free: the leaves that its bookings cover, leaf l being bit 2^l, their direction (0 up, 1 down, 2 none) and their number.
+// Refusals: 5, 12, 13, 14.
+#[no_mangle]
+pub extern "C" fn mq_summary_value(b: MqBook, seat: u32, timeslot: u32) -> MqSummary
+    ensures { λ r. ⌜ r ≡ summaryAsC (summaryAnswer (readBook b) seat timeslot) ⌝ }
+{
+    let c = mqarbset_book::read_book(b);
+    let r = summaries::summary(c, seat, timeslot);
+    mqarbset_answers::at_a_glance::summary_as_c(r)
 }

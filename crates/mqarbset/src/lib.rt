@@ -4,7 +4,7 @@ pub mod book;
 pub mod by_block;
 pub mod pages;
 pub mod pairs;
-pub mod slots;
+pub mod parts;
 pub mod version;
 
 ghost use mathlib.Core.Path.{_≡_};

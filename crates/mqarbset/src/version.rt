@@ -7,7 +7,7 @@ ghost use Rattle.mqarbset.specs.Version.{version, bookSize};
 pub extern "C" fn mq_version() -> u32
     ensures { λ r. ⌜ r ≡ version ⌝ }
 {
-    600
+    700
 }
 
 // The bytes of a class book.
@@ -15,5 +15,5 @@ pub extern "C" fn mq_version() -> u32
 pub extern "C" fn mq_book_bytes() -> u32
     ensures { λ r. ⌜ r ≡ bookSize ⌝ }
 {
-    5232
+    6432
 }

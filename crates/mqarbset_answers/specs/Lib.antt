@@ -1,5 +1,6 @@
 pub mod Answers
-pub mod Slots
+pub mod Parts
 pub mod Pages
 pub mod Pairs
 pub mod Blocks
+pub mod Summaries

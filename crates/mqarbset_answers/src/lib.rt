@@ -1,8 +1,9 @@
 // The answers of documents 01 and 02 as the structs of the C interface: each case of a call's enum turned into the struct.
+pub mod at_a_glance;
 pub mod by_block;
 pub mod pages;
 pub mod pairs;
-pub mod slots;
+pub mod parts;
 
 ghost use mathlib.Core.Path.{_≡_};
 ghost use Rattle.midambles.specs.Calls.{saidChip, saidMidamble};

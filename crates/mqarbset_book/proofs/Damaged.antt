@@ -1,4 +1,4 @@
--- What becomes of bytes that should be 0 or 1 and are neither: a book that holds one breaks its conditions, so that every call on it gets 12. Cited by no proof: it
+-- What becomes of bytes that are none of the few that they may be: a book that holds one breaks its conditions, so that every call on it gets 12. Cited by no proof: it
 -- is for the reader of the promises. Assumes nothing.
 use mathlib.Core.Path.{_≡_, refl}
 use mathlib.Core.Bool.{false}

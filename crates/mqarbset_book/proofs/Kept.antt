@@ -3,15 +3,22 @@
 use mathlib.Core.Path.{_≡_, refl, ap, _∙_}
 use mathlib.Core.Bool.{Bool, true, false, not}
 use mathlib.Core.List.{List, [], _∷_, map}
-use lib.Dec.{eqb}
+use Prim.Native.Nat.{ℕ, _+_, _*_, _/_, _%_}
+use native.Mathlib.Omega.{arith}
+use lib.Dec.{eqb, ltb}
 use Rattle.laws.specs.Lists.{one, every}
 use Rattle.laws.proofs.Lists.{both}
 use Rattle.conditions.specs.declared.Direction.{Direction}
 use Rattle.conditions.specs.declared.Direction.the-variants.{Up, Down}
 use Rattle.bookings.specs.declared.Booking.{Booking}
+use Rattle.slots.specs.declared.Way.{Way}
+use Rattle.slots.specs.declared.Way.the-variants as way
+use Rattle.slots.specs.declared.Slot.{Slot}
+use Rattle.slots.specs.Slots.{wayNumber}
 use Rattle.seats.specs.declared.Seat.{Seat}
 use Rattle.classbook.specs.declared.Book.{Book}
-use Rattle.mqarbset_book.specs.Mirror.{neither, readDirection, readBooking, readSeat, properBooking, properSeat, proper, readBook, writeDirection, writeBooking, writeSeat, writeBook}
+use Rattle.mqarbset_book.specs.Mirror.{neither, readDirection, readBooking, readWay, readSlot, readSeat, properBooking, properSlot, properSeat, proper, readBook}
+use Rattle.mqarbset_book.specs.Mirror.{writeDirection, writeBooking, writeSlot, writeSeat, writeBook}
 
 module _ {A B : Type 0} (g : A → B) where
   map-kept : (f : B → A) → ((x : A) → f (g x) ≡ x) → (l : List A) → map f (map g l) ≡ l
@@ -39,9 +46,20 @@ booking-proper : (x : Booking) → properBooking (writeBooking x) ≡ true
 unfolding writeBooking
 booking-proper x = direction-proper (x .direction)
 
+way-proper : (w : Way) → not (ltb 2 (wayNumber w)) ≡ true
+unfolding wayNumber
+way-proper way.Up = refl
+way-proper way.Down = refl
+way-proper way.Neither = refl
+
+slot-proper : (x : Slot) → properSlot (writeSlot x) ≡ true
+unfolding writeSlot
+slot-proper x = both _ _ (way-proper (x .way)) (live-proper (x .second))
+
 seat-proper : (s : Seat) → properSeat (writeSeat s) ≡ true
 unfolding properSeat writeSeat
-seat-proper s = both _ _ (live-proper (s .live)) (map-passes writeBooking properBooking booking-proper (s .row))
+seat-proper s =
+    both _ _ (both _ _ (live-proper (s .live)) (map-passes writeBooking properBooking booking-proper (s .row))) (map-passes writeSlot properSlot slot-proper (s .slots))
 
 pub written-proper : (b : Book) → proper (writeBook b) ≡ true
 unfolding proper writeBook
@@ -62,9 +80,22 @@ booking-kept : (x : Booking) → readBooking (writeBooking x) ≡ x
 unfolding readBooking writeBooking
 booking-kept x = simp (direction-kept (x .direction))
 
+way-kept : (w : Way) → readWay (wayNumber w) ≡ w
+unfolding readWay wayNumber
+way-kept way.Up = refl
+way-kept way.Down = refl
+way-kept way.Neither = refl
+
+pattern-kept : (n : ℕ) → n % 256 + n / 256 * 256 ≡ n
+pattern-kept n = omega arith
+
+slot-kept : (x : Slot) → readSlot (writeSlot x) ≡ x
+unfolding readSlot writeSlot
+slot-kept x = simp (pattern-kept (x .leaves), way-kept (x .way), live-kept (x .second))
+
 seat-kept : (s : Seat) → readSeat (writeSeat s) ≡ s
 unfolding readSeat writeSeat
-seat-kept s = simp (live-kept (s .live), map-kept writeBooking readBooking booking-kept (s .row))
+seat-kept s = simp (live-kept (s .live), map-kept writeBooking readBooking booking-kept (s .row), map-kept writeSlot readSlot slot-kept (s .slots))
 
 pub kept : (b : Book) → readBook (writeBook b) ≡ b
 unfolding readBook writeBook

@@ -23,6 +23,16 @@ pub struct MqBooking {
     pub tpc: u8,
 }
 
+// What is kept of a timeslot, in five bytes: the pattern's low and high byte, the way (0 up, 1 down, 2 neither), how many bookings, and 1 where they are type 2.
+#[repr(C)]
+pub struct MqSlot {
+    pub low: u8,
+    pub high: u8,
+    pub way: u8,
+    pub count: u8,
+    pub second: u8,
+}
+
 // A seat: live 0 is closed, 1 is open.
 #[repr(C)]
 pub struct MqSeat {
@@ -34,6 +44,7 @@ pub struct MqSeat {
     pub short: u8,
     pub count: u8,
     pub row: [MqBooking; 40],
+    pub slots: [MqSlot; 15],
 }
 
 #[repr(C)]

@@ -3,13 +3,16 @@ ghost use mathlib.Core.Path.{_≡_};
 ghost use mathlib.Core.Bool.{not, _&&_};
 ghost use mathlib.Core.List.{map};
 ghost use Rattle.laws.specs.Lists.{every};
-ghost use Rattle.mqarbset_book.specs.Mirror.{neither, readBooking, readSeat, properBooking, brokenBook, readBook};
+ghost use Rattle.mqarbset_book.specs.Mirror.{neither, readBooking, readWay, readSlot, readSeat, properBooking, properSlot, brokenBook, readBook};
 use crate::MqBook;
 use crate::MqBooking;
 use crate::MqSeat;
+use crate::MqSlot;
 use bookings::Booking;
 use classbook::Book;
 use seats::Seat;
+use slots::Slot;
+use slots::Way;
 
 // A booking, byte by byte.
 fn read_booking(x: MqBooking) -> Booking
@@ -44,12 +47,57 @@ fn read_row(row: [MqBooking; 40]) -> [Booking; 40]
     out
 }
 
+// 0 is up, 1 is down and 2 is neither.
+fn read_way(w: u8) -> Way
+    ensures { λ r. ⌜ r ≡ readWay w ⌝ }
+{
+    if w == 0 {
+        return Way::Up;
+    }
+    if w == 1 {
+        return Way::Down;
+    }
+    Way::Neither
+}
+
+// What is kept of a timeslot, byte by byte.
+fn read_slot(x: MqSlot) -> Slot
+    ensures { λ r. ⌜ r ≡ readSlot x ⌝ }
+{
+    let way = read_way(x.way);
+    let leaves = (x.low as u16) + (x.high as u16) * 256;
+    Slot {
+        leaves,
+        way,
+        count: x.count,
+        second: x.second == 1,
+    }
+}
+
+// The 15 timeslots of a seat.
+fn read_slots(from: [MqSlot; 15]) -> [Slot; 15]
+    ensures { λ r. ⌜ r ≡ map readSlot from ⌝ }
+{
+    let none = slots::no_slot();
+    let mut out = [none; 15];
+    let mut i: usize = 0;
+    while i < 15 {
+        let x = from[i];
+        let y = read_slot(x);
+        out[i] = y;
+        i += 1;
+    }
+    out
+}
+
 // A seat, byte by byte: live 0 is closed and 1 is open.
 fn read_seat(s: MqSeat) -> Seat
     ensures { λ r. ⌜ r ≡ readSeat s ⌝ }
 {
     let from = s.row;
     let row = read_row(from);
+    let kept = s.slots;
+    let slots = read_slots(kept);
     Seat {
         live: s.live == 1,
         cell: s.cell,
@@ -59,6 +107,7 @@ fn read_seat(s: MqSeat) -> Seat
         short: s.short,
         count: s.count,
         row,
+        slots,
     }
 }
 
@@ -76,12 +125,28 @@ fn proper_bytes(live: u8, row: [MqBooking; 40]) -> bool
     ok
 }
 
+// And each byte of its timeslots that should be 0 or 1, or 0 to 2.
+fn proper_slots(from: [MqSlot; 15]) -> bool
+    ensures { λ r. ⌜ r ≡ every properSlot from ⌝ }
+{
+    let mut ok = true;
+    let mut i: usize = 0;
+    while i < 15 {
+        let x = from[i];
+        let fit = !(x.way > 2) & !(x.second > 1);
+        ok = ok & fit;
+        i += 1;
+    }
+    ok
+}
+
 // A book that breaks its conditions: a closed seat holds nothing.
 fn broken_book() -> Book
     ensures { λ r. ⌜ r ≡ brokenBook ⌝ }
 {
     let none = seats::closed_seat();
     let row = none.row;
+    let slots = none.slots;
     let seat = Seat {
         live: false,
         cell: 0,
@@ -91,12 +156,13 @@ fn broken_book() -> Book
         short: 0,
         count: 1,
         row,
+        slots,
     };
     let all = [seat; 16];
     Book { seats: all }
 }
 
-// The book that the bytes say; bytes that should be 0 or 1 and are neither say one that breaks its conditions.
+// The book that the bytes say; bytes that are none of the few that they may be say one that breaks its conditions.
 pub fn read_book(b: MqBook) -> Book
     ensures { λ r. ⌜ r ≡ readBook b ⌝ }
 {
@@ -108,7 +174,9 @@ pub fn read_book(b: MqBook) -> Book
         let s = b.seats[i];
         let row = s.row;
         let one = proper_bytes(s.live, row);
-        ok = ok & one;
+        let kept = s.slots;
+        let two = proper_slots(kept);
+        ok = ok & (one & two);
         let t = read_seat(s);
         out[i] = t;
         i += 1;

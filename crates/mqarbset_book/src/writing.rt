@@ -1,13 +1,15 @@
 // A book as bytes for a C caller.
 ghost use mathlib.Core.Path.{_≡_};
 ghost use mathlib.Core.List.{map};
-ghost use Rattle.mqarbset_book.specs.Mirror.{writeBooking, writeSeat, writeBook};
+ghost use Rattle.mqarbset_book.specs.Mirror.{writeBooking, writeSlot, writeSeat, writeBook};
 use crate::MqBook;
 use crate::MqBooking;
 use crate::MqSeat;
+use crate::MqSlot;
 use bookings::Booking;
 use classbook::Book;
 use seats::Seat;
+use slots::Slot;
 
 // A booking, byte by byte.
 fn write_booking(x: Booking) -> MqBooking
@@ -52,12 +54,51 @@ fn write_row(row: [Booking; 40]) -> [MqBooking; 40]
     out
 }
 
+// What is kept of a timeslot, byte by byte.
+fn write_slot(x: Slot) -> MqSlot
+    ensures { λ r. ⌜ r ≡ writeSlot x ⌝ }
+{
+    let w = x.way;
+    let way = slots::way_number(w);
+    MqSlot {
+        low: (x.leaves % 256) as u8,
+        high: (x.leaves / 256) as u8,
+        way,
+        count: x.count,
+        second: x.second as u8,
+    }
+}
+
+// The 15 timeslots of a seat.
+fn write_slots(from: [Slot; 15]) -> [MqSlot; 15]
+    ensures { λ r. ⌜ r ≡ map writeSlot from ⌝ }
+{
+    let none = MqSlot {
+        low: 0,
+        high: 0,
+        way: 2,
+        count: 0,
+        second: 0,
+    };
+    let mut out = [none; 15];
+    let mut i: usize = 0;
+    while i < 15 {
+        let x = from[i];
+        let y = write_slot(x);
+        out[i] = y;
+        i += 1;
+    }
+    out
+}
+
 // A seat, byte by byte: closed is 0 and open is 1.
 fn write_seat(s: Seat) -> MqSeat
     ensures { λ r. ⌜ r ≡ writeSeat s ⌝ }
 {
     let from = s.row;
     let row = write_row(from);
+    let kept = s.slots;
+    let slots = write_slots(kept);
     MqSeat {
         live: s.live as u8,
         cell: s.cell,
@@ -67,6 +108,7 @@ fn write_seat(s: Seat) -> MqSeat
         short: s.short,
         count: s.count,
         row,
+        slots,
     }
 }
 

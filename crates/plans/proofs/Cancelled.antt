@@ -17,10 +17,12 @@ use Rattle.laws.proofs.Lists.{by-cases, both, hd, tl, cons, every-at}
 use Rattle.laws.proofs.Places.{length-remove}
 use Rattle.bookings.specs.declared.Booking.{Booking}
 use Rattle.seats.specs.declared.Seat.{Seat}
-use Rattle.bookings.specs.Bookings.{firstLeaf, clash, key, comes, fine}
+use Rattle.leaves.specs.Leaves.{firstLeaf}
+use Rattle.bookings.specs.Bookings.{clash, key, comes, fine}
 use Rattle.seats.specs.Seats.{held, bookings, standsIn, seatOk, rank, insert, names, without, withPlan}
 use Rattle.plans.specs.Inside.{placeNamed}
-use Rattle.plans.proofs.Plans.{sound, open-good, with-plan-ok}
+use Rattle.seats.proofs.Sound.{sound}
+use Rattle.plans.proofs.Plans.{open-good, with-plan-ok}
 use Rattle.plans.proofs.Named.{placed-or-none}
 
 -- ---- x goes in before those that it may stand before

@@ -2,54 +2,35 @@
 -- Cited by the crate classbook. Assumes nothing.
 use mathlib.Core.Path.{_≡_, refl, sym, _∙_}
 use mathlib.Core.Logic.{⊎-elim}
-use mathlib.Core.Bool.{Bool, true, false, not, cond, or-true, and-comm}
+use mathlib.Core.Bool.{Bool, true, false, not, cond, or-true}
 use mathlib.Core.List.{List, [], _∷_}
 use Prim.Native.Nat.{ℕ, _+_, _≤_, _<_}
 use native.Mathlib.Omega.{arith}
-use lib.Dec.{eqb, ltb}
-use lib.ListN.{length, getD, replicate}
-use borrow.Author.Tests.{ltb-true, ltb-false, lt-ltb, eqb-true, eqb-false, eq-eqb, ne-eqb, not-true, not-false}
+use lib.Dec.{ltb}
+use lib.ListN.{length, getD}
+use borrow.Author.Tests.{ltb-true, ltb-false, lt-ltb, eq-eqb, not-true, not-false}
 use Rattle.laws.specs.Lists.{every, pairs, removeAt}
 use Rattle.laws.proofs.Bools.{true-false, and-true}
 use Rattle.laws.proofs.Lists.{by-cases, both, hd, tl, cons, every-insert, placed}
+use Rattle.laws.proofs.Matches.{matches-self}
 use Rattle.laws.proofs.Rows.{count-le, out-again}
 use Rattle.laws.proofs.Places.{length-insert, insert-at}
 use Rattle.refusals.specs.Refusals.{firstOf}
-use Rattle.conditions.specs.declared.Direction.{Direction}
-use Rattle.conditions.specs.declared.Direction.the-variants.{Up, Down}
 use Rattle.conditions.specs.Conditions.{isDown}
 use Rattle.tables.specs.Tables.{settingsRefusals}
 use Rattle.bookings.specs.declared.Booking.{Booking}
+use Rattle.slots.specs.Slots.{sameSlot, summaryOf}
+use Rattle.slots.proofs.Summary.{same-self}
 use Rattle.seats.specs.declared.Seat.{Seat}
-use Rattle.bookings.specs.Bookings.{leavesOf, leaf, overlaps, sameDirection, clash, key, comes, fine}
+use Rattle.leaves.specs.Leaves.{leavesOf}
+use Rattle.bookings.specs.Bookings.{leaf, overlaps, clash, key, comes, fine}
 use Rattle.seats.specs.Conditions.{clashesWith}
-use Rattle.seats.specs.Seats.{blank, isBlank, isBare, closed, held, bookings, goodSettings, standsIn, seatOk, rank, insert, withPlan, opened}
+use Rattle.seats.specs.Seats.{isBlank, isBare, closed, held, bookings, goodSettings, standsIn, seatOk, rank, insert, withPlan, opened}
 use Rattle.bookings.proofs.Formed.{Formed}
-use Rattle.bookings.proofs.Types.{mixed-turn}
+use Rattle.bookings.proofs.Clash.{clash-turn}
 use Rattle.seats.proofs.Tested.{stands-formed}
-use Rattle.plans.proofs.Plans.{sound, open-good, with-plan-ok, plan-length}
-
--- ---- two bookings clash whichever is named first
-eqb-turn : (m n : ℕ) → eqb m n ≡ eqb n m
-eqb-turn m n =
-    ⊎-elim (λ t. t ∙ sym (eq-eqb n m (sym (eqb-true m n t)))) (λ f. f ∙ sym (ne-eqb n m (λ e. eqb-false m n f (sym e)))) (by-cases (eqb m n))
-
-direction-turn : (d e : Direction) → sameDirection d e ≡ sameDirection e d
-unfolding sameDirection isDown
-direction-turn Up Up = refl
-direction-turn Up Down = refl
-direction-turn Down Up = refl
-direction-turn Down Down = refl
-
-clash-turn : (x y : Booking) → clash x y ≡ clash y x
-unfolding clash overlaps
-clash-turn x y =
-    rw (
-      eqb-turn (x .timeslot) (y .timeslot),
-      direction-turn (x .direction) (y .direction),
-      mixed-turn (x .burst) (y .burst),
-      and-comm (ltb (leaf x) (leaf y + leavesOf (y .factor))) (ltb (leaf y) (leaf x + leavesOf (x .factor))),
-    )
+use Rattle.seats.proofs.Sound.{sound}
+use Rattle.plans.proofs.Plans.{open-good, with-plan-ok, plan-length}
 
 -- ---- of two in form that do not clash, one comes before the other
 same-clash : (x y : Booking) → Formed x → Formed y → key x ≡ key y → clash x y ≡ true
@@ -136,7 +117,7 @@ module _ (s : Seat) (x : Booking) where
 -- ---- a seat that is closed, and one that was just opened
 pub closed-ok : seatOk closed ≡ true
 unfolding seatOk closed isBare every pairs isBlank isDown
-closed-ok = refl
+closed-ok = matches-self sameSlot same-self (summaryOf [])
 
 pub opened-ok : (cell case k long short : ℕ) → firstOf (settingsRefusals cell case k long short) ≡ 0
     → seatOk (opened cell case k long short) ≡ true

@@ -1,25 +1,36 @@
 -- A seat with a given plan: what it holds, when it meets its conditions, and that a booking carried into a row or out of it makes such a seat.
 -- Cited by Kept, by Cancelled and by the crate classbook. Assumes nothing.
 use mathlib.Core.Path.{_≡_, refl, sym, ap, _∙_}
-use mathlib.Core.Bool.{true, not, _&&_, _||_, or-true}
+use mathlib.Core.Bool.{true, not, or-true}
 use mathlib.Core.List.{List, [], _∷_, _++_}
 use Prim.Native.Nat.{ℕ, _+_, _-_, _≤_, _<_, min}
 use native.Mathlib.Omega.{arith}
-use lib.Dec.{eqb, leb}
-use lib.ListN.{length, take, drop, replicate, length-drop, take-append-drop}
-use lib.Seq.{take-at, drop-at, length-take-le}
-use borrow.Author.Tests.{eqb-true, leb-true, le-leb}
+use lib.Dec.{eqb}
+use lib.ListN.{length, take, drop, set, getD, replicate, length-drop, take-append-drop}
+use lib.Seq.{take-at, drop-at, length-take-le, getD-take}
+use borrow.Author.Tests.{eqb-true}
 use Rattle.laws.specs.Lists.{every, pairs, insertAt, removeAt}
 use Rattle.laws.proofs.Bools.{true-false, and-true}
+use Rattle.laws.proofs.Lists.{every-at, every-weaker, every-remove}
+use Rattle.laws.proofs.Rows.{count-le}
 use Rattle.laws.proofs.Places.{every-replicate, every-same, length-insert, length-remove, filled-length, filled-insert, filled-remove}
 use Rattle.conditions.specs.declared.Direction.{Direction}
 use Rattle.conditions.specs.declared.Direction.the-variants.{Up, Down}
 use Rattle.conditions.specs.Conditions.{isDown}
 use Rattle.bookings.specs.declared.Booking.{Booking}
+use Rattle.slots.specs.declared.Slot.{Slot}
+use Rattle.slots.specs.Slots.{isIn, countIn, slotOf, summaryOf}
+use Rattle.slots.specs.Inside.{noSlot, joinedWith}
+use Rattle.slots.proofs.ByMasks.{goodCode}
+use Rattle.slots.proofs.Summary.{summary-at}
 use Rattle.seats.specs.declared.Seat.{Seat}
 use Rattle.bookings.specs.Bookings.{fine}
+use Rattle.bookings.proofs.Formed.{Formed}
+use Rattle.seats.proofs.Tested.{stands-formed}
+use Rattle.seats.proofs.Sound.{sound, sound-ok}
 use Rattle.seats.specs.Seats.{blank, isBlank, held, bookings, goodSettings, standsIn, isBare, seatOk, rank, insert, withPlan}
 use Rattle.plans.proofs.Carried.{kept, rank-high, putIn, takenOut}
+use Rattle.plans.proofs.Summed.{summary-in, summary-out}
 
 -- ---- only one value is blank
 is-up : (d : Direction) → not (isDown d) ≡ true → d ≡ Up
@@ -44,27 +55,7 @@ blank-only x e =
         → _≡_ {A = Booking} (record { timeslot = t; direction = d; burst = b; factor = q; index = k; user = u; tfci = f; tpc = p }) blank
     same t d b q k u f p e₁ e₂ e₃ e₄ e₅ e₆ e₇ e₈ = simp (e₁, e₂, e₃, e₄, e₅, e₆, e₇, e₈)
 
--- ---- the conditions of a seat, one by one
-pub record Sound (s : Seat) : Type 0 where
-  pub closed-or-good : (isBare s || (s .live && goodSettings s)) ≡ true
-  pub few : s .count ≤ 40
-  pub standing : every (standsIn s) (bookings s) ≡ true
-  pub ordered : pairs fine (bookings s) ≡ true
-  pub rest-blank : every isBlank (drop (held s) (s .row)) ≡ true
-
-pub sound : (s : Seat) → seatOk s ≡ true → Sound s
-unfolding seatOk
-sound s e =
-    let a = and-true (isBare s || (s .live && goodSettings s)) _ e in
-    let b = and-true (leb (s .count) 40) _ (a .1) in
-    let c = and-true (every (standsIn s) (bookings s)) _ (b .1) in
-    let d = and-true (pairs fine (bookings s)) (every isBlank (drop (held s) (s .row))) (c .1) in
-    record { closed-or-good = a .0; few = leb-true _ _ (b .0); standing = c .0; ordered = d .0; rest-blank = d .1 }
-
-pub sound-ok : (s : Seat) → Sound s → seatOk s ≡ true
-unfolding seatOk
-sound-ok s o = simp (o .closed-or-good, le-leb (s .count) 40 (o .few), o .standing, o .ordered, o .rest-blank)
-
+-- ---- an open seat's settings
 pub open-good : (s : Seat) → seatOk s ≡ true → s .live ≡ true → goodSettings s ≡ true
 unfolding isBare
 open-good s e live = simp live at (sound s e .closed-or-good)
@@ -74,9 +65,11 @@ blanks : (n : ℕ) → every isBlank (replicate n blank) ≡ true
 unfolding isBlank isDown
 blanks n = every-replicate isBlank blank refl n
 
-plan-made : (s : Seat) (m : ℕ) (r l : List Booking) → m ≡ length l → r ≡ l ++ replicate (40 - length l) blank → kept s m r ≡ withPlan s l
+plan-made : (s : Seat) (m : ℕ) (r : List Booking) (w : List Slot) (l : List Booking) → m ≡ length l → r ≡ l ++ replicate (40 - length l) blank → w ≡ summaryOf l
+    → kept s m r w ≡ withPlan s l
 unfolding withPlan
-plan-made s m r l em er = ap (λ (n : ℕ). kept s n r) em ∙ ap (λ (q : List Booking). kept s (length l) q) er
+plan-made s m r w l em er ew =
+    ap (λ (n : ℕ). kept s n r w) em ∙ ap (λ (q : List Booking). kept s (length l) q w) er ∙ ap (λ (v : List Slot). kept s (length l) (l ++ replicate (40 - length l) blank) v) ew
 
 module _ (s : Seat) (l : List Booking) (fits : length l ≤ 40) where
   -- it holds that plan, in a row of 40
@@ -104,6 +97,7 @@ module _ (s : Seat) (l : List Booking) (fits : length l ≤ 40) where
         standing = ap (every (standsIn s)) with-plan-bookings ∙ stand;
         ordered = ap (pairs fine) with-plan-bookings ∙ order;
         rest-blank = ap (every isBlank) rest ∙ blanks (40 - length l);
+        agrees = ap summaryOf (sym with-plan-bookings);
       })
 
 -- ---- the row of a seat that meets its conditions is its plan and blank places
@@ -118,19 +112,61 @@ module _ (s : Seat) (ok : seatOk s ≡ true) (wide : length (s .row) ≡ 40) whe
       sym (take-append-drop (held s) (s .row)) ∙ ap (λ (m : List Booking). bookings s ++ m) (rest ∙ ap (λ (k : ℕ). replicate k blank) n)
 
   -- a booking carried into the row, and one carried out
-  pub put-in-plan : (x : Booking) → held s < 40 → putIn s x ≡ withPlan s (insert x (bookings s))
+  pub put-in-plan : (x : Booking) → held s < 40 → x .timeslot ≤ 14 → putIn s x ≡ withPlan s (insert x (bookings s))
   unfolding putIn insert
-  put-in-plan x room =
+  put-in-plan x room low =
       let p : rank x (bookings s) ≤ length (bookings s) = omega (arith, rank-high x (held s) (s .row), plan-length s wide) in
-      plan-made s (held s + 1) (take 40 (insertAt (rank x (bookings s)) x (s .row))) (insert x (bookings s))
+      plan-made s (held s + 1) (take 40 (insertAt (rank x (bookings s)) x (s .row))) _ (insert x (bookings s))
       (omega (arith, length-insert (rank x (bookings s)) (bookings s) x, plan-length s wide))
       (ap (λ (r : List Booking). take 40 (insertAt (rank x (bookings s)) x r)) blank-row
       ∙ filled-insert 40 blank (bookings s) (rank x (bookings s)) x p (omega (arith, plan-length s wide)))
+      (ap (λ (w : List Slot). set w (x .timeslot) (joinedWith (getD w (x .timeslot) noSlot) x)) (sound s ok .agrees) ∙ summary-in (bookings s) (rank x (bookings s)) x low)
 
-  pub taken-out-at : (p : ℕ) → p < held s → takenOut s p ≡ withPlan s (removeAt p (bookings s))
-  unfolding takenOut
-  taken-out-at p h =
+  -- the row without it, and the one that goes
+  pub row-without : (p : ℕ) → p < held s → removeAt p (s .row ++ blank ∷ []) ≡ removeAt p (bookings s) ++ replicate (40 - length (removeAt p (bookings s))) blank
+  row-without p h =
       let b : p < length (bookings s) = omega (arith, plan-length s wide) in
-      plan-made s (held s - 1) (removeAt p (s .row ++ blank ∷ [])) (removeAt p (bookings s))
+      ap (λ (r : List Booking). removeAt p (r ++ blank ∷ [])) blank-row ∙ filled-remove 40 blank (bookings s) p b (omega (arith, plan-length s wide))
+
+  pub goes : (p : ℕ) → p < held s → getD (s .row) p blank ≡ getD (bookings s) p blank
+  goes p h = sym (getD-take (held s) (s .row) p blank h)
+
+  pub taken-out-at : (p : ℕ) → p < held s → getD (s .row) p blank .timeslot ≤ 14 → (v : Slot) → v ≡ slotOf (getD (s .row) p blank .timeslot) (removeAt p (bookings s))
+      → takenOut s p v ≡ withPlan s (removeAt p (bookings s))
+  unfolding takenOut
+  taken-out-at p h low v ev =
+      let b : p < length (bookings s) = omega (arith, plan-length s wide) in
+      let same : getD (s .row) p blank .timeslot ≡ getD (bookings s) p blank .timeslot = ap (λ (x : Booking). x .timeslot) (goes p h) in
+      plan-made s (held s - 1) (removeAt p (s .row ++ blank ∷ [])) _ (removeAt p (bookings s))
       (omega (arith, length-remove p (bookings s) b, plan-length s wide))
-      (ap (λ (r : List Booking). removeAt p (r ++ blank ∷ [])) blank-row ∙ filled-remove 40 blank (bookings s) p b (omega (arith, plan-length s wide)))
+      (row-without p h)
+      (ap (λ (w : List Slot). set w (getD (s .row) p blank .timeslot) v) (sound s ok .agrees)
+      ∙ ap (λ (t : ℕ). set (summaryOf (bookings s)) t v) same
+      ∙ summary-out (bookings s) p blank b (rw (← same) low) v (ev ∙ ap (λ (t : ℕ). slotOf t (removeAt p (bookings s))) same))
+
+  -- ---- what the code may rely on: a kept number of bookings is small, and those that stay are in form
+  pub count-kept : (t : ℕ) (d : Slot) → t ≤ 14 → getD (s .slots) t d .count < 255
+  unfolding slotOf countIn
+  count-kept t d low =
+      let told : getD (s .slots) t d ≡ slotOf t (bookings s) = ap (λ (w : List Slot). getD w t d) (sound s ok .agrees) ∙ summary-at (bookings s) d t low in
+      let c : getD (s .slots) t d .count ≡ countIn t (bookings s) = ap (λ (v : Slot). v .count) told in
+      omega (arith, c, count-le (isIn t) (bookings s), plan-length s wide)
+
+  in-form : (x : Booking) → standsIn s x ≡ true → Formed x
+  in-form x = stands-formed (s .case) (s .k) (s .long) (s .short) x
+
+  pub gone-low : (p : ℕ) → p < held s → getD (s .row) p blank .timeslot ≤ 14
+  gone-low p h =
+      let b : p < length (bookings s) = omega (arith, plan-length s wide) in
+      let f = in-form (getD (bookings s) p blank) (every-at (standsIn s) (bookings s) p blank b (sound s ok .standing)) in
+      rw (goes p h) (f .timeslot-high)
+
+  pub left-told : (p n : ℕ) (r : List Booking) → p < held s → n ≡ held s → r ≡ removeAt p (s .row ++ blank ∷ []) → take (n - 1) r ≡ removeAt p (bookings s)
+  left-told p n r h en er =
+      let b : p < length (bookings s) = omega (arith, plan-length s wide) in
+      rw (er, row-without p h) (take-at (removeAt p (bookings s)) _ (n - 1) (omega (arith, length-remove p (bookings s) b, plan-length s wide, en)))
+
+  pub left-good : (p n : ℕ) (r : List Booking) → p < held s → n ≡ held s → r ≡ removeAt p (s .row ++ blank ∷ []) → every goodCode (take (n - 1) r) ≡ true
+  left-good p n r h en er =
+      rw (left-told p n r h en er)
+      (every-remove goodCode (bookings s) p (every-weaker (standsIn s) goodCode (λ x e. ap not (in-form x e .code-good)) (bookings s) (sound s ok .standing)))

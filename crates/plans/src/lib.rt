@@ -1,16 +1,20 @@
-// The class book, what a booking and a cancelling make of a seat: its row moves up or down behind the place. No calls of document 01: public for the crate
-// classbook, whose calls have tested before what is required here.
+// The class book, what a booking and a cancelling make of a seat: its row moves up or down behind the place, and its timeslot says what it holds then. No calls of
+// document 01: public for the crate classbook, whose calls have tested before what is required here.
 ghost use mathlib.Core.Path.{_≡_};
-ghost use mathlib.Core.Bool.{true, not};
+ghost use mathlib.Core.Bool.{true, false, cond, not};
 ghost use mathlib.Core.List.{_++_, _∷_, []};
 ghost use Prim.Native.Nat.{_≤_, _<_};
-ghost use lib.Dec.{leb};
+ghost use lib.Dec.{eqb, leb};
 ghost use lib.ListN.{take};
 ghost use Rattle.laws.specs.Lists.{one, every, insertAt, removeAt};
+ghost use Rattle.conditions.specs.Conditions.{badTimeslot, badCode};
+ghost use Rattle.slots.specs.Slots.{slotOf};
+ghost use Rattle.slots.specs.Inside.{joinedWith};
 ghost use Rattle.seats.specs.Seats.{held, bookings, seatOk, rank, insert, names, withPlan};
 ghost use Rattle.plans.specs.Inside.{placeNamed};
 use bookings::Booking;
 use seats::Seat;
+use slots::Slot;
 
 fn one_if(c: bool) -> usize
     ensures { λ r. ⌜ (r ≡ one c) × (r ≤ 1) ⌝ }
@@ -53,7 +57,7 @@ fn put_in(row: [Booking; 40], p: usize, x: Booking) -> [Booking; 40]
 
 // The seat with one booking more, in its place. Public for the crate classbook.
 pub fn with_booking(s: Seat, x: Booking) -> Seat
-    requires { ⌜ (seatOk s ≡ true) × (held s < 40) ⌝ }
+    requires { ⌜ (seatOk s ≡ true) × (held s < 40) × (badTimeslot (x .timeslot) ≡ false) × (badCode (x .factor) (x .index) ≡ false) ⌝ }
     ensures { λ r. ⌜ r ≡ withPlan s (insert x (bookings s)) ⌝ }
 {
     let row = s.row;
@@ -61,6 +65,11 @@ pub fn with_booking(s: Seat, x: Booking) -> Seat
     let p = place_of(row, n, x);
     let next = put_in(row, p, x);
     let count = (n + 1) as u8;
+    let t = x.timeslot as usize;
+    let mut kept = s.slots;
+    let there = kept[t];
+    let more = slots::joined(there, x);
+    kept[t] = more;
     Seat {
         live: s.live,
         cell: s.cell,
@@ -70,6 +79,7 @@ pub fn with_booking(s: Seat, x: Booking) -> Seat
         short: s.short,
         count,
         row: next,
+        slots: kept,
     }
 }
 
@@ -113,7 +123,33 @@ fn take_out(row: [Booking; 40], p: usize, blank: Booking) -> [Booking; 40]
     out
 }
 
-// The seat without the booking at a place that is in use. Public for the crate classbook.
+// A timeslot with one booking more, if it is one of its own.
+fn joined_own(s: Slot, timeslot: u8, x: Booking) -> Slot
+    requires { ⌜ (badCode (x .factor) (x .index) ≡ false) × (s .count < 255) ⌝ }
+    ensures { λ r. ⌜ r ≡ cond (eqb (x .timeslot) timeslot) (joinedWith s x) s ⌝ }
+{
+    if x.timeslot == timeslot {
+        return slots::joined(s, x);
+    }
+    s
+}
+
+// What the first n say of a timeslot: each of its bookings joins those before it.
+fn slot_of(row: [Booking; 40], n: usize, timeslot: u8) -> Slot
+    requires { ⌜ (n ≤ 40) × (every (λ x. not (badCode (x .factor) (x .index))) (take n row) ≡ true) ⌝ }
+    ensures { λ r. ⌜ r ≡ slotOf timeslot (take n row) ⌝ }
+{
+    let mut made = slots::no_slot();
+    let mut i = 0;
+    while i < n {
+        let x = row[i];
+        made = joined_own(made, timeslot, x);
+        i += 1;
+    }
+    made
+}
+
+// The seat without the booking at a place that is in use. What is left of its timeslot is summed again from the bookings that stay. Public for the crate classbook.
 pub fn without_at(s: Seat, p: usize) -> Seat
     requires { ⌜ (seatOk s ≡ true) × (p < held s) ⌝ }
     ensures { λ r. ⌜ r ≡ withPlan s (removeAt p (bookings s)) ⌝ }
@@ -121,8 +157,14 @@ pub fn without_at(s: Seat, p: usize) -> Seat
     let row = s.row;
     let n = seats::held_by(s.count);
     let none = seats::blank_booking();
+    let gone = row[p];
     let next = take_out(row, p, none);
-    let count = (n - 1) as u8;
+    let left = n - 1;
+    let count = left as u8;
+    let t = gone.timeslot as usize;
+    let mut kept = s.slots;
+    let fewer = slot_of(next, left, gone.timeslot);
+    kept[t] = fewer;
     Seat {
         live: s.live,
         cell: s.cell,
@@ -132,5 +174,6 @@ pub fn without_at(s: Seat, p: usize) -> Seat
         short: s.short,
         count,
         row: next,
+        slots: kept,
     }
 }

@@ -5,12 +5,13 @@ use mathlib.Core.List.{List, [], _∷_, _++_}
 use Prim.Native.Nat.{ℕ, _-_, min}
 use lib.Dec.{eqb, leb}
 use lib.ListN.{length, take, drop, replicate}
-use Rattle.laws.specs.Lists.{every, pairs, total, one, insertAt}
+use Rattle.laws.specs.Lists.{every, pairs, matches, total, one, insertAt}
 use Rattle.refusals.specs.Refusals.{firstOf}
 use Rattle.conditions.specs.declared.Direction.the-variants.{Up}
 use Rattle.conditions.specs.Conditions.{isDown}
 use Rattle.tables.specs.Tables.{settingsRefusals}
 use Rattle.bookings.specs.declared.Booking.{Booking}
+use Rattle.slots.specs.Slots.{sameSlot, summaryOf}
 use Rattle.seats.specs.declared.Seat.{Seat}
 use Rattle.bookings.specs.Bookings.{formOf, comes, fine}
 use Rattle.seats.specs.Conditions.{notPermitted, offBeacon}
@@ -27,12 +28,12 @@ isBlank x =
 
 -- a closed seat
 unfoldable pub closed : Seat
-closed = record { live = false; cell = 0; case = 0; k = 0; long = 0; short = 0; count = 0; row = replicate 40 blank }
+closed = record { live = false; cell = 0; case = 0; k = 0; long = 0; short = 0; count = 0; row = replicate 40 blank; slots = summaryOf [] }
 
 -- a seat just opened with these settings: no bookings
 abbrev pub opened : ℕ → ℕ → ℕ → ℕ → ℕ → Seat
 opened cell case k long short =
-    record { live = true; cell = cell; case = case; k = k; long = long; short = short; count = 0; row = replicate 40 blank }
+    record { live = true; cell = cell; case = case; k = k; long = long; short = short; count = 0; row = replicate 40 blank; slots = summaryOf [] }
 
 -- how many bookings a seat holds: its row has 40 places, whatever the count says
 abbrev pub held : Seat → ℕ
@@ -79,9 +80,13 @@ noTwoClash s = pairs fine (bookings s)
 abbrev pub restBlank : Seat → Bool
 restBlank s = every isBlank (drop (held s) (s .row))
 
+-- the same of the summary, document 02, C-16: "It must equal what the bookings themselves say"; "A book whose summary disagrees breaks its conditions."
+abbrev pub summaryAgrees : Seat → Bool
+summaryAgrees s = matches sameSlot (s .slots) (summaryOf (bookings s))
+
 -- the conditions of a seat. That a booking "belongs to an open seat" is in the first: a closed seat holds none
 unfoldable pub seatOk : Seat → Bool
-seatOk s = bareOrGood s && (atMostForty s && (eachMayStand s && (noTwoClash s && restBlank s)))
+seatOk s = bareOrGood s && (atMostForty s && (eachMayStand s && (noTwoClash s && (restBlank s && summaryAgrees s))))
 
 -- how many of a list come before x
 unfoldable pub rank : Booking → List Booking → ℕ
@@ -100,7 +105,7 @@ unfoldable pub without : ℕ → ℕ → ℕ → List Booking → List Booking
 without timeslot factor index [] = []
 without timeslot factor index (y ∷ l) = cond (names timeslot factor index y) (without timeslot factor index l) (y ∷ without timeslot factor index l)
 
--- a seat with the settings of s and the bookings l, every further place blank
+-- a seat with the settings of s, the bookings l and what they say of each timeslot, every further place blank
 unfoldable pub withPlan : Seat → List Booking → Seat
 withPlan s l =
     record {
@@ -112,4 +117,5 @@ withPlan s l =
       short = s .short;
       count = length l;
       row = l ++ replicate (40 - length l) blank;
+      slots = summaryOf l;
     }

@@ -1,4 +1,5 @@
-// The class book, one seat of it (document 01, "The class book"): its settings and its row of bookings, kept sorted as it is listed and blank behind them.
+// The class book, one seat of it (document 01, "The class book"): its settings, its row of bookings, kept sorted as it is listed and blank behind them, and what they
+// say of each timeslot (document 02, C-16).
 // `rules` has the refusals 16 to 18, `valid` the conditions of a seat.
 pub mod rules;
 pub mod valid;
@@ -8,8 +9,9 @@ ghost use Prim.Native.Nat.{_≤_, min};
 ghost use Rattle.seats.specs.Seats.{blank, closed, opened};
 use bookings::Booking;
 use conditions::Direction;
+use slots::Slot;
 
-// A seat. Closed, it is all zero and its row is blank.
+// A seat. Closed, its numbers are zero, its row is blank and its timeslots are without bookings.
 pub struct Seat {
     pub live: bool,
     pub cell: u8,
@@ -19,6 +21,7 @@ pub struct Seat {
     pub short: u8,
     pub count: u8,
     pub row: [Booking; 40],
+    pub slots: [Slot; 15],
 }
 
 // A place that is not in use.
@@ -50,6 +53,8 @@ pub fn closed_seat() -> Seat
 {
     let none = blank_booking();
     let row = [none; 40];
+    let free = slots::no_slot();
+    let slots = [free; 15];
     Seat {
         live: false,
         cell: 0,
@@ -59,6 +64,7 @@ pub fn closed_seat() -> Seat
         short: 0,
         count: 0,
         row,
+        slots,
     }
 }
 
@@ -69,6 +75,8 @@ pub fn opened_seat(cell: u32, case: u32, k: u32, long: u32, short: u32) -> Seat
 {
     let none = blank_booking();
     let row = [none; 40];
+    let free = slots::no_slot();
+    let slots = [free; 15];
     Seat {
         live: true,
         cell: cell as u8,
@@ -78,5 +86,6 @@ pub fn opened_seat(cell: u32, case: u32, k: u32, long: u32, short: u32) -> Seat
         short: short as u8,
         count: 0,
         row,
+        slots,
     }
 }

@@ -1,9 +1,12 @@
 // The refusals 16 to 18: what stands against a booking in its own seat.
 ghost use mathlib.Core.Path.{_≡_};
-ghost use Prim.Native.Nat.{_≤_};
-ghost use lib.ListN.{take};
-ghost use Rattle.seats.specs.Conditions.{countFor, notPermitted, clashesWith, offBeacon};
+ghost use mathlib.Core.Bool.{false};
+ghost use lib.ListN.{getD};
+ghost use Rattle.conditions.specs.Conditions.{badTimeslot, badCode};
+ghost use Rattle.slots.specs.Inside.{noSlot, hitsWith};
+ghost use Rattle.seats.specs.Conditions.{countFor, notPermitted, offBeacon};
 use bookings::Booking;
+use slots::Slot;
 
 // Of a seat's two counts the one that a burst type goes by: the short one for type 2.
 fn count_for(long: u8, short: u8, burst: u8) -> u8
@@ -23,20 +26,14 @@ pub fn not_permitted(long: u8, short: u8, x: Booking) -> bool
     conditions::bad_user(x.burst as u32, count as u32, x.user as u32)
 }
 
-// Whether x clashes with one of the first n. Refusal 17. No call of document 01: public for the crate book_tables, which hands in `held_by` as n.
-pub fn clashes_any(row: [Booking; 40], n: usize, x: Booking) -> bool
-    requires { ⌜ n ≤ 40 ⌝ }
-    ensures { λ r. ⌜ r ≡ clashesWith (take n row) x ⌝ }
+// Whether x clashes with what is kept of its timeslot. Refusal 17. No call of document 01: public for the crate book_tables, whose bookings have been tested before.
+pub fn clashes_there(slots: [Slot; 15], x: Booking) -> bool
+    requires { ⌜ (badTimeslot (x .timeslot) ≡ false) × (badCode (x .factor) (x .index) ≡ false) ⌝ }
+    ensures { λ r. ⌜ r ≡ hitsWith (getD slots (x .timeslot) noSlot) x ⌝ }
 {
-    let mut i = 0;
-    let mut ok = true;
-    while i < n {
-        let y = row[i];
-        let c = bookings::clashing(x, y);
-        ok = ok & !c;
-        i += 1;
-    }
-    !ok
+    let t = x.timeslot as usize;
+    let s = slots[t];
+    slots::hits(s, x)
 }
 
 // Refusal 18.

@@ -1,16 +1,18 @@
 // Whether a seat meets its conditions.
 ghost use mathlib.Core.Path.{_≡_};
-ghost use mathlib.Core.Bool.{not, _&&_};
+ghost use mathlib.Core.Bool.{true, not, _&&_};
 ghost use Prim.Native.Nat.{_≤_};
 ghost use lib.Dec.{eqb};
 ghost use lib.ListN.{take, drop};
-ghost use Rattle.laws.specs.Lists.{every, chain};
+ghost use Rattle.laws.specs.Lists.{every, chain, pairs, matches};
 ghost use Rattle.refusals.specs.Refusals.{firstOf};
 ghost use Rattle.tables.specs.Tables.{settingsRefusals};
-ghost use Rattle.bookings.specs.Bookings.{fine};
+ghost use Rattle.bookings.specs.Bookings.{formOf, clash, comes};
+ghost use Rattle.slots.specs.Slots.{sameSlot, summaryOf};
 ghost use Rattle.seats.specs.Seats.{isBlank, stands, seatOk};
 use crate::Seat;
 use bookings::Booking;
+use slots::Slot;
 
 // All its numbers are 0, tested as one number of as many bytes as a booking has in memory.
 fn blank_place(x: Booking) -> bool
@@ -41,11 +43,11 @@ fn may_stand(case: u8, k: u8, long: u8, short: u8, x: Booking) -> bool
     !off
 }
 
-// Whether of the first n each may stand, each may stand before its neighbour, and every place from n on is blank. Neighbours are enough for all pairs among
-// bookings that may stand: bookings/proofs/Order.antt. Three loops in one function: each function that takes places of a row copies the row first.
+// Whether of the first n each may stand, each comes before its neighbour, and every place from n on is blank. Neighbours are enough for the order of all pairs:
+// bookings/proofs/Order.antt. Three loops in one function: each function that takes places of a row copies the row first.
 fn row_ok(row: [Booking; 40], n: usize, case: u8, k: u8, long: u8, short: u8) -> bool
     requires { ⌜ n ≤ 40 ⌝ }
-    ensures { λ r. ⌜ r ≡ (every (stands case k long short) (take n row) && (chain fine (take n row) && every isBlank (drop n row))) ⌝ }
+    ensures { λ r. ⌜ r ≡ (every (stands case k long short) (take n row) && (chain comes (take n row) && every isBlank (drop n row))) ⌝ }
 {
     let mut i: usize = 0;
     while i < n {
@@ -60,7 +62,7 @@ fn row_ok(row: [Booking; 40], n: usize, case: u8, k: u8, long: u8, short: u8) ->
     while j + 1 < n {
         let x = row[j];
         let y = row[j + 1];
-        let fit = bookings::fine_pair(x, y);
+        let fit = bookings::comes_before(x, y);
         if !fit {
             return false;
         }
@@ -75,6 +77,45 @@ fn row_ok(row: [Booking; 40], n: usize, case: u8, k: u8, long: u8, short: u8) ->
         p += 1;
     }
     ok
+}
+
+// Whether two summaries say the same of each timeslot.
+fn same_slots(a: [Slot; 15], b: [Slot; 15]) -> bool
+    ensures { λ r. ⌜ r ≡ matches sameSlot a b ⌝ }
+{
+    let mut t: usize = 0;
+    let mut ok = true;
+    while t < 15 {
+        let x = a[t];
+        let y = b[t];
+        let same = slots::same_slot(x, y);
+        ok = ok & same;
+        t += 1;
+    }
+    ok
+}
+
+// Whether of the first n no two clash, and the summary kept is what they say. Each is tested against what those before it say of its timeslot, and joins them.
+fn slots_ok(row: [Booking; 40], n: usize, kept: [Slot; 15]) -> bool
+    requires { ⌜ (n ≤ 40) × (every (λ x. eqb (formOf x) 0) (take n row) ≡ true) ⌝ }
+    ensures { λ r. ⌜ r ≡ (pairs (λ x y. not (clash x y)) (take n row) && matches sameSlot kept (summaryOf (take n row))) ⌝ }
+{
+    let none = slots::no_slot();
+    let mut made = [none; 15];
+    let mut i: usize = 0;
+    let mut ok = true;
+    while i < n {
+        let x = row[i];
+        let t = x.timeslot as usize;
+        let s = made[t];
+        let hit = slots::hits(s, x);
+        ok = ok & !hit;
+        let more = slots::joined(s, x);
+        made[t] = more;
+        i += 1;
+    }
+    let same = same_slots(kept, made);
+    ok & same
 }
 
 // A closed seat has no settings and holds nothing.
@@ -108,5 +149,10 @@ pub fn seat_ok(s: Seat) -> bool
     let bare = is_bare(s.live, s.cell, s.case, s.k, s.long, s.short, s.count);
     let good = settings_pass(s.cell, s.case, s.k, s.long, s.short);
     let fit = row_ok(row, n, s.case, s.k, s.long, s.short);
-    (bare | (s.live & good)) & ((s.count <= 40) & fit)
+    if !fit {
+        return false;
+    }
+    let slots = s.slots;
+    let agree = slots_ok(row, n, slots);
+    (bare | (s.live & good)) & ((s.count <= 40) & agree)
 }

@@ -4,9 +4,6 @@ use Rattle.bookings.proofs.Leaves.{leaf-told}
 use borrow.Author.Needs.{needs}
 use Rattle.bookings.proofs.comes_before.Statement.{statement}
 use Rattle.bookings.proofs.comes_before.Tie as tie
-use Rattle.bookings.proofs.comes_over.Reads as comes-over-reads
-use Rattle.bookings.proofs.leaf_at.Reads as leaf-at-reads
-use Rattle.bookings.proofs.leaves_of.Reads as leaves-of-reads
 
 leaves-of-requires : tie.Need-leaves-of-requires
 leaves-of-requires c κs = search needs

@@ -6,7 +6,7 @@ use Rattle.bookings.specs.declared.Booking.{Booking}
 use Rattle.classbook.specs.Calls.{requestRefusals, bookAnswer}
 use Rattle.classbook.specs.Inside.{bookingAnswer}
 use Rattle.classbook.proofs.Answers.{refused-by}
-use Rattle.classbook.proofs.Made.{book-early, book-late}
+use Rattle.classbook.proofs.Made.{book-early, book-late, form-kept}
 use Rattle.classbook.proofs.Small.{request-small}
 use borrow.Author.Needs.{needs}
 use Rattle.classbook.proofs.book_code.Statement.{statement}
@@ -26,7 +26,10 @@ kept-requires c κs =
     (s .timeslot-high, s .burst-high, s .factor-high, s .index-high, s .user-in, s .tfci-high, s .tpc-high)
 
 book-kept-requires : tie.Need-book-kept-requires
-book-kept-requires c κs = search needs
+unfolding requestRefusals
+book-kept-requires c κs =
+    let e = c .before in
+    form-kept (e .before .before .args .x) _ (sym (e .before .form-refusal .ensures) ∙ e .if1 .left) (c .kept .ensures)
 
 returns-2 : tie.Need-returns-2
 unfolding requestRefusals

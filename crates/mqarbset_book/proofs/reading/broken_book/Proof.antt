@@ -11,7 +11,7 @@ closed-seat-requires c κs = search needs
 
 returns : tie.Need-returns
 unfolding closed brokenBook
-returns c = simp (c .before .closed-seat .ensures)
+returns c = simp (c .before .before .closed-seat .ensures)
 
 pub broken-book-spec : {M : Type 1} → statement M
 broken-book-spec = tie.close (tie.spec closed-seat-requires returns)

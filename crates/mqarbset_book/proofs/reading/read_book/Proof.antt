@@ -27,6 +27,9 @@ module _ (b : MqBook) (ok : Bool) (told : ok ≡ every properSeat (b .seats)) wh
   unfolding readBook proper
   read-broken r f e = e ∙ simp (sym told ∙ f)
 
+both-told : (a b c d : Bool) → a ≡ c → b ≡ d → (a && b) ≡ (c && d)
+both-told a b c d e f = rw (e, f)
+
 abbrev Inv-loop : tie.InvT-loop
 Inv-loop b broken₀ out₀ ok₀ i₀ out ok i = Copying readSeat 16 (b .seats) out i × ((ok && every properSeat (drop i (b .seats))) ≡ every properSeat (b .seats))
 
@@ -49,6 +52,9 @@ element-copy-out-s c = search needs
 proper-bytes-requires : tie.Need-proper-bytes-requires Inv-loop μ-loop
 proper-bytes-requires c κs = search needs
 
+proper-slots-requires : tie.Need-proper-slots-requires Inv-loop μ-loop
+proper-slots-requires c κs = search needs
+
 read-seat-requires : tie.Need-read-seat-requires Inv-loop μ-loop
 read-seat-requires c κs = search needs
 
@@ -67,11 +73,12 @@ loop-less c = search needs
 loop-again : tie.Need-loop-again Inv-loop μ-loop
 unfolding every properSeat
 loop-again c =
-    let s = c .before .before .before .before .before .before .before .before in
-    let l = c .before .before .before .before .before .loop in
+    let s = c .before .before .before .before .before .before .before .before .before .before in
+    let l = c .before .before .before .before .before .before .before .loop in
     let h = sixteen (s .args .t1) (s .good .0 .1 .1 .0 .1 .0 .1) in (
       copy-turn readSeat 16 (s .args .t1 .seats) (l .out) (l .i) _ _ h (omega arith) (l .inv .0) (c .read-seat .ensures),
-      left-turn (s .args .t1 .seats) (l .i) (every properSeat) (λ x _. properSeat x) (λ x l. refl) _ (l .ok) _ _ (omega (arith, h)) (l .inv .1) (c .before .proper-bytes .ensures),
+      left-turn (s .args .t1 .seats) (l .i) (every properSeat) (λ x _. properSeat x) (λ x l. refl) _ (l .ok) _ _ (omega (arith, h)) (l .inv .1)
+          (both-told (c .before .before .before .proper-bytes .result) (c .before .proper-slots .result) _ _ (c .before .before .before .proper-bytes .ensures) (c .before .proper-slots .ensures)),
     )
 
 returns : tie.Need-returns Inv-loop μ-loop
@@ -102,6 +109,7 @@ read-book-spec =
     mul-s
     element-copy-out-s
     proper-bytes-requires
+    proper-slots-requires
     read-seat-requires
     mul-out
     array-set-from-out

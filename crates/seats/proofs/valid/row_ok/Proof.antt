@@ -11,7 +11,7 @@ use Rattle.laws.specs.Lists.{every, chain}
 use Rattle.laws.proofs.Bools.{fails-first, fails-second, last-decides}
 use Rattle.laws.proofs.Rows.{turn, ended, left-turn, left-ended, goes-on, stops}
 use Rattle.laws.proofs.Neighbours.{chain-turn, chain-ended}
-use Rattle.bookings.specs.Bookings.{fine}
+use Rattle.bookings.specs.Bookings.{comes}
 use Rattle.seats.specs.Seats.{blank, isBlank, stands}
 use Rattle.seats.proofs.valid.row_ok.Statement.{statement}
 use Rattle.seats.proofs.valid.row_ok.Tie as tie
@@ -23,13 +23,13 @@ abbrev μ-loop : tie.MeasureT-loop
 μ-loop n case k long short row i₀ i = n - i
 
 abbrev Inv-loop2 : tie.InvT-loop2
-Inv-loop2 n case k long short row i j₀ j = (every (stands case k long short) (take n row) ≡ true) × (j ≤ n) × (chain fine (drop j (take n row)) ≡ chain fine (take n row))
+Inv-loop2 n case k long short row i j₀ j = (every (stands case k long short) (take n row) ≡ true) × (j ≤ n) × (chain comes (drop j (take n row)) ≡ chain comes (take n row))
 
 abbrev μ-loop2 : tie.MeasureT-loop2
 μ-loop2 n case k long short row i j₀ j = n - j
 
 abbrev Inv-loop3 : tie.InvT-loop3
-Inv-loop3 n case k long short row i j p₀ ok₀ p ok = (every (stands case k long short) (take n row) ≡ true) × (chain fine (take n row) ≡ true) × ((ok && every isBlank (drop p row)) ≡ every isBlank (drop n row))
+Inv-loop3 n case k long short row i j p₀ ok₀ p ok = (every (stands case k long short) (take n row) ≡ true) × (chain comes (take n row) ≡ true) × ((ok && every isBlank (drop p row)) ≡ every isBlank (drop n row))
 
 abbrev μ-loop3 : tie.MeasureT-loop3
 μ-loop3 n case k long short row i j p₀ ok₀ p ok = 40 - p
@@ -47,13 +47,13 @@ stood c =
     turn (a .t1) (a .n) (l .i) (every (stands (a .case) (a .k) (a .long) (a .short))) (λ x _. stands (a .case) (a .k) (a .long) (a .short) x) (λ x l. refl) _
     true (c .may-stand .result) _ (omega arith) (omega (arith, s .good .0 .1 .0 .1)) (l .inv) (c .may-stand .ensures)
 
-ordered : (c : tie.After-fine-pair Inv-loop μ-loop Inv-loop2 μ-loop2 Inv-loop3 μ-loop3)
+ordered : (c : tie.After-comes-before Inv-loop μ-loop Inv-loop2 μ-loop2 Inv-loop3 μ-loop3)
     → let a = c .before .before .before .before .before .before .before .args in
-    ((true && c .fine-pair .result) && chain fine (drop (c .before .before .before .before .loop2 .j + 1) (take (a .n) (a .t1)))) ≡ chain fine (take (a .n) (a .t1))
+    ((true && c .comes-before .result) && chain comes (drop (c .before .before .before .before .loop2 .j + 1) (take (a .n) (a .t1)))) ≡ chain comes (take (a .n) (a .t1))
 ordered c =
     let s = c .before .before .before .before .before .before .before in
     let l = c .before .before .before .before .loop2 in
-    chain-turn fine (s .args .t1) (s .args .n) (l .j) blank true (c .fine-pair .result) _ (omega arith) (omega (arith, s .good .0 .1 .0 .1)) (l .inv .2) (c .fine-pair .ensures)
+    chain-turn comes (s .args .t1) (s .args .n) (l .j) blank true (c .comes-before .result) _ (omega arith) (omega (arith, s .good .0 .1 .0 .1)) (l .inv .2) (c .comes-before .ensures)
 
 loop-holds : tie.Need-loop-holds Inv-loop μ-loop Inv-loop2 μ-loop2 Inv-loop3 μ-loop3
 loop-holds c = refl
@@ -105,13 +105,13 @@ mul-y c = search needs
 array-copy-out-y : tie.Need-array-copy-out-y Inv-loop μ-loop Inv-loop2 μ-loop2 Inv-loop3 μ-loop3
 array-copy-out-y c = search needs
 
-fine-pair-requires :
-    tie.Need-fine-pair-requires Inv-loop μ-loop Inv-loop2 μ-loop2 Inv-loop3 μ-loop3
-fine-pair-requires c κs = search needs
+comes-before-requires :
+    tie.Need-comes-before-requires Inv-loop μ-loop Inv-loop2 μ-loop2 Inv-loop3 μ-loop3
+comes-before-requires c κs = search needs
 
 returns-2 : tie.Need-returns-2 Inv-loop μ-loop Inv-loop2 μ-loop2 Inv-loop3 μ-loop3
 returns-2 c =
-    fails-second _ _ _ (c .before .before .before .before .before .loop2 .inv .0) (stops (c .before .fine-pair .result) _ _ (ordered (c .before)) (not-true _ (c .if2 .taken)))
+    fails-second _ _ _ (c .before .before .before .before .before .loop2 .inv .0) (stops (c .before .comes-before .result) _ _ (ordered (c .before)) (not-true _ (c .if2 .taken)))
 
 add-j : tie.Need-add-j Inv-loop μ-loop Inv-loop2 μ-loop2 Inv-loop3 μ-loop3
 add-j c = search needs
@@ -121,13 +121,13 @@ loop2-less c = search needs
 
 loop2-again : tie.Need-loop2-again Inv-loop μ-loop Inv-loop2 μ-loop2 Inv-loop3 μ-loop3
 loop2-again c =
-    (c .before .before .before .before .before .loop2 .inv .0, omega arith, goes-on (c .before .fine-pair .result) _ _ (ordered (c .before)) (not-false _ (c .if2 .left)))
+    (c .before .before .before .before .before .loop2 .inv .0, omega arith, goes-on (c .before .comes-before .result) _ _ (ordered (c .before)) (not-false _ (c .if2 .left)))
 
 loop3-holds : tie.Need-loop3-holds Inv-loop μ-loop Inv-loop2 μ-loop2 Inv-loop3 μ-loop3
 loop3-holds c =
     let s = c .before .before .before .before in
     let l = c .before .loop2 in
-    (l .inv .0, sym (chain-ended fine (s .args .t1) (s .args .n) (l .j) blank true _ (omega arith) (omega (arith, s .good .0 .1 .0 .1)) (l .inv .2)), refl)
+    (l .inv .0, sym (chain-ended comes (s .args .t1) (s .args .n) (l .j) blank true _ (omega arith) (omega (arith, s .good .0 .1 .0 .1)) (l .inv .2)), refl)
 
 mul-x-3 : tie.Need-mul-x-3 Inv-loop μ-loop Inv-loop2 μ-loop2 Inv-loop3 μ-loop3
 mul-x-3 c = search needs
@@ -189,7 +189,7 @@ row-ok-spec =
     add-y
     mul-y
     array-copy-out-y
-    fine-pair-requires
+    comes-before-requires
     returns-2
     add-j
     loop2-less

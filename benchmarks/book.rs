@@ -4,6 +4,7 @@
 use crate::dice::{same, Dice};
 use crate::limits;
 use crate::plain::book as plain;
+use crate::plain::book::Way;
 use crate::table::Line;
 use library::{MqBook, MqBookAnswer, BOOK_BYTES};
 use std::hint::black_box;
@@ -139,6 +140,50 @@ fn call(tally: &mut Tally, dice: &mut Dice, b: MqBook) -> MqBook {
     }
 }
 
+/// What the bookings of a seat say of its timeslots, put down again.
+fn sum_again(seat: &mut [u8]) {
+    let (bookings, slots) = seat.split_at_mut(SLOTS_AT);
+    let [neither, up, down] = [Way::Neither, Way::Up, Way::Down].map(|way| way as u8);
+    slots.chunks_exact_mut(5).for_each(|slot| slot.copy_from_slice(&[0, 0, neither, 0, 0]));
+    for x in bookings[7..].chunks_exact(8).take(bookings[6] as usize) {
+        let [timeslot, direction, burst, factor, index] = [x[0], x[1], x[2], x[3], x[4]];
+        if timeslot < 15 && matches!(factor, 1 | 2 | 4 | 8 | 16) && (1..=factor).contains(&index) {
+            let leaves = 16 / factor as u32;
+            let mask = ((1u32 << leaves) - 1) << ((index as u32 - 1) * leaves);
+            let slot = &mut slots[5 * timeslot as usize..][..5];
+            slot[0] |= mask as u8;
+            slot[1] |= (mask >> 8) as u8;
+            slot[2] = if slot[2] == down || direction == 1 { down } else { up };
+            slot[3] += 1;
+            slot[4] |= (burst == 2) as u8;
+        }
+    }
+}
+
+/// A book with a byte or two changed; or with one byte of a booking changed, or two bookings of a seat exchanged, and
+/// timeslots that say so: only what else is asked of a book can refuse it.
+fn damaged(dice: &mut Dice, mut b: MqBook) -> MqBook {
+    let values = [0, 1, 1, 2, 3, 4, 16, 40, 41, 255];
+    if dice.below(2) == 0 {
+        for _ in 0..=dice.below(2) {
+            b.0[dice.below(BOOK_BYTES as u32) as usize] = dice.one_of(&values);
+        }
+        return b;
+    }
+    let seat = &mut b.0[dice.below(3) as usize * SEAT_BYTES..][..SEAT_BYTES];
+    let held = seat[6] as u32;
+    if held != 0 {
+        let [p, q] = [0, 1].map(|_| 7 + 8 * dice.below(held) as usize);
+        if dice.below(3) == 0 {
+            (0..8).for_each(|k| seat.swap(p + k, q + k));
+        } else {
+            seat[p + dice.below(8) as usize] = dice.one_of(&values);
+        }
+        sum_again(seat);
+    }
+    b
+}
+
 /// Each byte of each seat's timeslots changed alone, to its neighbour, by one bit and to a thrown one: every call
 /// refuses the book.
 fn damaged_slots(tally: &mut Tally, dice: &mut Dice, b: MqBook) {
@@ -187,8 +232,7 @@ fn damaged_slots(tally: &mut Tally, dice: &mut Dice, b: MqBook) {
     }
 }
 
-/// Rows of thrown calls, the book going on from call to call; and each call now and then on a copy of the book with a
-/// byte or two changed.
+/// Rows of thrown calls, the book going on from call to call; and each call now and then on a damaged copy of the book.
 pub fn compare() -> u32 {
     let mut tally = Tally::default();
     for seed in 0..20 {
@@ -200,11 +244,7 @@ pub fn compare() -> u32 {
         for _ in 0..4000 {
             b = call(&mut tally, &mut dice, b);
             if dice.below(4) == 0 {
-                let mut damaged = b;
-                for _ in 0..=dice.below(2) {
-                    damaged.0[dice.below(BOOK_BYTES as u32) as usize] =
-                        dice.one_of(&[0, 1, 1, 2, 3, 4, 16, 40, 41, 255]);
-                }
+                let damaged = damaged(&mut dice, b);
                 call(&mut tally, &mut dice, damaged);
             }
         }
@@ -240,8 +280,9 @@ fn opened_book(bookings: u32) -> MqBook {
     }
     for j in 0..bookings {
         let (seat, turn) = if j < 160 { (j % 16, j / 16) } else { (j % 8, j / 8 - 10) };
-        let x = [1 + turn * 5 % 14, 0, 1, 16, 1 + turn / 14, 1, 0, 0];
-        b = plain::book(b, seat, x).book;
+        let answer = plain::book(b, seat, [1 + turn * 5 % 14, 0, 1, 16, 1 + turn / 14, 1, 0, 0]);
+        assert_eq!(answer.refusal, 0, "booking {j}");
+        b = answer.book;
     }
     b
 }

@@ -137,6 +137,12 @@ mod plain {
                 sum = next(sum ^ y.index as u32);
                 sum = next(sum ^ y.user as u32);
             }
+            for y in &s.slots {
+                sum = next(sum ^ y.pattern() as u32);
+                sum = next(sum ^ y.direction());
+                sum = next(sum ^ y.count as u32);
+                sum = next(sum ^ y.second as u32);
+            }
         }
         sum
     }

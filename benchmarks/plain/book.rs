@@ -12,7 +12,7 @@ pub enum Direction {
     Down,
 }
 
-#[derive(Clone, Copy, PartialEq, Eq)]
+#[derive(Clone, Copy)]
 #[repr(C)]
 pub struct Booking {
     pub timeslot: u8,
@@ -36,13 +36,13 @@ const BLANK: Booking = Booking {
     tpc: 0,
 };
 
-/// The direction of a timeslot's bookings.
+/// The direction of a timeslot's bookings, if it has any.
 #[derive(Clone, Copy, PartialEq, Eq)]
 #[repr(u8)]
 pub enum Way {
+    Neither,
     Up,
     Down,
-    Neither,
 }
 
 /// What a seat's bookings say of one timeslot: leaf l is bit l of the pattern, which lies in two bytes, the low one
@@ -174,6 +174,20 @@ impl Booking {
             == 0
     }
 
+    /// All its numbers in one, which is 0 where its place is blank.
+    fn number(&self) -> u64 {
+        u64::from_le_bytes([
+            self.timeslot,
+            self.direction as u8,
+            self.burst,
+            self.factor,
+            self.index,
+            self.user,
+            self.tfci,
+            self.tpc,
+        ])
+    }
+
     /// How many leaves its code covers: its factor is a power of two.
     fn leaves(&self) -> u32 {
         16 >> self.factor.trailing_zeros()
@@ -191,6 +205,13 @@ impl Booking {
         (((1u32 << self.leaves()) - 1) << self.first_leaf()) as u16
     }
 
+    fn way(&self) -> Way {
+        match self.direction {
+            Direction::Up => Way::Up,
+            Direction::Down => Way::Down,
+        }
+    }
+
     fn breaks_beacon(&self) -> bool {
         let first = self.factor == 16 && self.index == 1;
         self.direction == Direction::Up
@@ -203,25 +224,31 @@ impl Booking {
 }
 
 impl Slot {
-    fn pattern(&self) -> u16 {
+    pub fn pattern(&self) -> u16 {
         u16::from_le_bytes(self.leaves)
+    }
+
+    /// The direction as a summary says it.
+    pub fn direction(&self) -> u32 {
+        match self.way {
+            Way::Up => 0,
+            Way::Down => 1,
+            Way::Neither => 2,
+        }
     }
 
     /// Whether a booking of this timeslot clashes with those that are there.
     fn clashes(&self, x: &Booking) -> bool {
         self.count != 0
             && (self.pattern() & x.mask() != 0
-                || self.way as u8 != x.direction as u8
+                || self.way != x.way()
                 || self.second != (x.burst == 2))
     }
 
     /// One booking more, which does not clash.
     fn join(&mut self, x: &Booking) {
         self.leaves = (self.pattern() | x.mask()).to_le_bytes();
-        self.way = match x.direction {
-            Direction::Up => Way::Up,
-            Direction::Down => Way::Down,
-        };
+        self.way = x.way();
         self.count += 1;
         self.second = x.burst == 2;
     }
@@ -307,10 +334,16 @@ impl Seat {
             && self.count <= 40
     }
 
-    /// Whether no two of its bookings clash and its timeslots say what they hold; each of them is well formed.
-    fn slots_ok(&self) -> bool {
+    /// Whether each of its bookings may stand, each comes before its neighbour, no two clash, and its timeslots say what
+    /// they hold.
+    fn bookings_ok(&self) -> bool {
         let mut made = [FREE; 15];
+        let mut next = 0;
         for x in self.bookings() {
+            if !x.well_formed() || self.not_permitted(x) || self.off_beacon(x) || x.key() < next {
+                return false;
+            }
+            next = x.key() + 1;
             let slot = &mut made[x.timeslot as usize];
             if slot.clashes(x) {
                 return false;
@@ -322,13 +355,8 @@ impl Seat {
 
     fn is_ok(&self) -> bool {
         self.settings_ok()
-            && self
-                .bookings()
-                .iter()
-                .all(|x| x.well_formed() && !self.not_permitted(x) && !self.off_beacon(x))
-            && self.bookings().windows(2).all(|w| w[0].key() < w[1].key())
-            && self.row[self.held()..].iter().all(|x| *x == BLANK)
-            && self.slots_ok()
+            && self.row[self.held()..].iter().fold(0, |all, x| all | x.number()) == 0
+            && self.bookings_ok()
     }
 
     fn add(&mut self, x: Booking) {
@@ -494,6 +522,7 @@ fn changed(mut book: MqBook, change: impl FnOnce(&mut Book) -> u32) -> MqBookAns
 
 #[inline(never)]
 pub fn empty() -> MqBook {
+    // SAFETY: both are BOOK_BYTES long (asserted above), and a Book has no bytes between its fields.
     const BYTES: MqBook = unsafe { transmute(EMPTY) };
     BYTES
 }
@@ -596,7 +625,7 @@ pub fn summary(mut book: MqBook, seat: u32, timeslot: u32) -> MqSummary {
     MqSummary {
         refusal: 0,
         leaves: slot.pattern() as u32,
-        direction: slot.way as u32,
+        direction: slot.direction(),
         count: slot.count as u32,
     }
 }

@@ -14,14 +14,13 @@ use Rattle.laws.proofs.Bools.{and-true}
 use Rattle.laws.proofs.Lists.{by-cases, both, hd, tl}
 use Rattle.conditions.specs.declared.Direction.the-variants.{Up, Down}
 use Rattle.slots.specs.declared.Way.the-variants as way
-use Rattle.slots.specs.Slots.{wayNumber}
 use Rattle.mqarbset_book.specs.declared.MqBooking.{MqBooking}
 use Rattle.mqarbset_book.specs.declared.MqSlot.{MqSlot}
 use Rattle.mqarbset_book.specs.declared.MqSeat.{MqSeat}
 use Rattle.mqarbset_book.specs.declared.MqBook.{MqBook}
 use Rattle.mqarbset_book.specs.Mirror.{neither, readDirection, readBooking, readWay, readSlot}
 use Rattle.mqarbset_book.specs.Mirror.{readSeat, properBooking, properSlot, properSeat, proper}
-use Rattle.mqarbset_book.specs.Mirror.{readBook, writeDirection, writeBooking, writeSlot, writeSeat}
+use Rattle.mqarbset_book.specs.Mirror.{readBook, writeDirection, writeBooking, writeWay, writeSlot, writeSeat}
 use Rattle.mqarbset_book.specs.Mirror.{writeBook}
 use Rattle.demand_over_c.specs.Bytes.{lowByte, Whole}
 
@@ -64,18 +63,18 @@ booking-back : (x : MqBooking) → properBooking x ≡ true → writeBooking (re
 unfolding readBooking writeBooking
 booking-back x p = simp (direction-back (x .direction) p)
 
--- a byte that is 0, 1 or 2; up and down say whether it is 0 and whether it is 1
-way-by : (w : ℕ) (up down : Bool) → eqb w 0 ≡ up → eqb w 1 ≡ down → not (ltb 2 w) ≡ true
-    → wayNumber (cond up way.Up (cond down way.Down way.Neither)) ≡ w
-unfolding wayNumber
-way-by w true down e f p = sym (eqb-true w 0 e)
-way-by w false true e f p = sym (eqb-true w 1 f)
+-- a byte that is 0, 1 or 2; up and down say whether it is 1 and whether it is 2
+way-by : (w : ℕ) (up down : Bool) → eqb w 1 ≡ up → eqb w 2 ≡ down → not (ltb 2 w) ≡ true
+    → writeWay (cond up way.Up (cond down way.Down way.Neither)) ≡ w
+unfolding writeWay
+way-by w true down e f p = sym (eqb-true w 1 e)
+way-by w false true e f p = sym (eqb-true w 2 f)
 way-by w false false e f p =
-    omega (arith, ltb-false 2 w (not-true (ltb 2 w) p), eqb-false w 0 e, eqb-false w 1 f)
+    omega (arith, ltb-false 2 w (not-true (ltb 2 w) p), eqb-false w 1 e, eqb-false w 2 f)
 
-way-back : (w : ℕ) → not (ltb 2 w) ≡ true → wayNumber (readWay w) ≡ w
+way-back : (w : ℕ) → not (ltb 2 w) ≡ true → writeWay (readWay w) ≡ w
 unfolding readWay
-way-back w p = way-by w (eqb w 0) (eqb w 1) refl refl p
+way-back w p = way-by w (eqb w 1) (eqb w 2) refl refl p
 
 low-back : (a b : ℕ) → a < 256 → (a + b * 256) % 256 ≡ a
 low-back a b h = omega arith

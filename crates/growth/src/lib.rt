@@ -4,6 +4,7 @@ use bookings::Booking;
 use classbook::Book;
 use classbook::Request;
 use conditions::Direction;
+use slots::Slot;
 
 // Which seat booking number j goes to: ten to each of sixteen seats, then one after another to eight of them.
 fn seat_of(j: u32) -> u32 {
@@ -150,6 +151,23 @@ fn row_sum(row: [Booking; 40], before: u32) -> u32 {
     sum
 }
 
+// And one that tells summaries apart.
+fn slots_sum(row: [Slot; 15], before: u32) -> u32 {
+    let mut sum = before;
+    let mut t: usize = 0;
+    while t < 15 {
+        let y = row[t];
+        let w = y.way;
+        let way = slots::way_number(w);
+        sum = next(sum ^ y.leaves as u32);
+        sum = next(sum ^ way as u32);
+        sum = next(sum ^ y.count as u32);
+        sum = next(sum ^ y.second as u32);
+        t += 1;
+    }
+    sum
+}
+
 // And one that tells books apart.
 fn book_sum(b: Book, before: u32) -> u32 {
     let mut sum = before;
@@ -159,6 +177,8 @@ fn book_sum(b: Book, before: u32) -> u32 {
         let row = s.row;
         sum = next(sum ^ s.count as u32);
         sum = row_sum(row, sum);
+        let kept = s.slots;
+        sum = slots_sum(kept, sum);
         n += 1;
     }
     sum

@@ -36,7 +36,7 @@ pub extern "C" fn mq_empty_book() -> MqBook
     let free = MqSlot {
         low: 0,
         high: 0,
-        way: 2,
+        way: 0,
         count: 0,
         second: 0,
     };

@@ -14,11 +14,10 @@ use Rattle.bookings.specs.declared.Booking.{Booking}
 use Rattle.slots.specs.declared.Way.{Way}
 use Rattle.slots.specs.declared.Way.the-variants as way
 use Rattle.slots.specs.declared.Slot.{Slot}
-use Rattle.slots.specs.Slots.{wayNumber}
 use Rattle.seats.specs.declared.Seat.{Seat}
 use Rattle.classbook.specs.declared.Book.{Book}
 use Rattle.mqarbset_book.specs.Mirror.{neither, readDirection, readBooking, readWay, readSlot, readSeat, properBooking, properSlot, properSeat, proper, readBook}
-use Rattle.mqarbset_book.specs.Mirror.{writeDirection, writeBooking, writeSlot, writeSeat, writeBook}
+use Rattle.mqarbset_book.specs.Mirror.{writeDirection, writeBooking, writeWay, writeSlot, writeSeat, writeBook}
 
 module _ {A B : Type 0} (g : A → B) where
   map-kept : (f : B → A) → ((x : A) → f (g x) ≡ x) → (l : List A) → map f (map g l) ≡ l
@@ -46,8 +45,8 @@ booking-proper : (x : Booking) → properBooking (writeBooking x) ≡ true
 unfolding writeBooking
 booking-proper x = direction-proper (x .direction)
 
-way-proper : (w : Way) → not (ltb 2 (wayNumber w)) ≡ true
-unfolding wayNumber
+way-proper : (w : Way) → not (ltb 2 (writeWay w)) ≡ true
+unfolding writeWay
 way-proper way.Up = refl
 way-proper way.Down = refl
 way-proper way.Neither = refl
@@ -80,8 +79,8 @@ booking-kept : (x : Booking) → readBooking (writeBooking x) ≡ x
 unfolding readBooking writeBooking
 booking-kept x = simp (direction-kept (x .direction))
 
-way-kept : (w : Way) → readWay (wayNumber w) ≡ w
-unfolding readWay wayNumber
+way-kept : (w : Way) → readWay (writeWay w) ≡ w
+unfolding readWay writeWay
 way-kept way.Up = refl
 way-kept way.Down = refl
 way-kept way.Neither = refl

@@ -12,7 +12,7 @@ use Rattle.bookings.specs.declared.Booking.{Booking}
 use Rattle.slots.specs.declared.Way.{Way}
 use Rattle.slots.specs.declared.Way.the-variants as way
 use Rattle.slots.specs.declared.Slot.{Slot}
-use Rattle.slots.specs.Slots.{summaryOf, wayNumber}
+use Rattle.slots.specs.Slots.{summaryOf}
 use Rattle.seats.specs.declared.Seat.{Seat}
 use Rattle.seats.specs.Seats.{blank}
 use Rattle.classbook.specs.declared.Book.{Book}
@@ -43,9 +43,9 @@ readBooking x =
       tpc = x .tpc;
     }
 
--- 0 is up, 1 is down and 2 is neither
+-- 0 is neither, 1 is up and 2 is down: an empty book is all zeros
 unfoldable pub readWay : ℕ → Way
-readWay w = cond (eqb w 0) way.Up (cond (eqb w 1) way.Down way.Neither)
+readWay w = cond (eqb w 1) way.Up (cond (eqb w 2) way.Down way.Neither)
 
 -- what is kept of a timeslot, byte by byte: of the pattern the low byte, then the high one
 unfoldable pub readSlot : MqSlot → Slot
@@ -112,9 +112,14 @@ writeBooking x =
       tpc = x .tpc;
     }
 
+unfoldable pub writeWay : Way → ℕ
+writeWay way.Neither = 0
+writeWay way.Up = 1
+writeWay way.Down = 2
+
 -- what is kept of a timeslot, byte by byte
 unfoldable pub writeSlot : Slot → MqSlot
-writeSlot x = record { low = x .leaves % 256; high = x .leaves / 256; way = wayNumber (x .way); count = x .count; second = one (x .second) }
+writeSlot x = record { low = x .leaves % 256; high = x .leaves / 256; way = writeWay (x .way); count = x .count; second = one (x .second) }
 
 -- a seat, byte by byte: closed is 0 and open is 1
 unfoldable pub writeSeat : Seat → MqSeat

@@ -47,14 +47,14 @@ fn read_row(row: [MqBooking; 40]) -> [Booking; 40]
     out
 }
 
-// 0 is up, 1 is down and 2 is neither.
+// 0 is neither, 1 is up and 2 is down.
 fn read_way(w: u8) -> Way
     ensures { λ r. ⌜ r ≡ readWay w ⌝ }
 {
-    if w == 0 {
+    if w == 1 {
         return Way::Up;
     }
-    if w == 1 {
+    if w == 2 {
         return Way::Down;
     }
     Way::Neither

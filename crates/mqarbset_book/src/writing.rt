@@ -1,7 +1,7 @@
 // A book as bytes for a C caller.
 ghost use mathlib.Core.Path.{_≡_};
 ghost use mathlib.Core.List.{map};
-ghost use Rattle.mqarbset_book.specs.Mirror.{writeBooking, writeSlot, writeSeat, writeBook};
+ghost use Rattle.mqarbset_book.specs.Mirror.{writeBooking, writeWay, writeSlot, writeSeat, writeBook};
 use crate::MqBook;
 use crate::MqBooking;
 use crate::MqSeat;
@@ -10,6 +10,7 @@ use bookings::Booking;
 use classbook::Book;
 use seats::Seat;
 use slots::Slot;
+use slots::Way;
 
 // A booking, byte by byte.
 fn write_booking(x: Booking) -> MqBooking
@@ -54,12 +55,23 @@ fn write_row(row: [Booking; 40]) -> [MqBooking; 40]
     out
 }
 
+// 0 is neither, 1 is up and 2 is down.
+fn write_way(w: Way) -> u8
+    ensures { λ r. ⌜ r ≡ writeWay w ⌝ }
+{
+    match w {
+        Way::Neither => 0,
+        Way::Up => 1,
+        Way::Down => 2,
+    }
+}
+
 // What is kept of a timeslot, byte by byte.
 fn write_slot(x: Slot) -> MqSlot
     ensures { λ r. ⌜ r ≡ writeSlot x ⌝ }
 {
     let w = x.way;
-    let way = slots::way_number(w);
+    let way = write_way(w);
     MqSlot {
         low: (x.leaves % 256) as u8,
         high: (x.leaves / 256) as u8,
@@ -76,7 +88,7 @@ fn write_slots(from: [Slot; 15]) -> [MqSlot; 15]
     let none = MqSlot {
         low: 0,
         high: 0,
-        way: 2,
+        way: 0,
         count: 0,
         second: 0,
     };

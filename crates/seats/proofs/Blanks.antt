@@ -1,10 +1,12 @@
--- A blank place: all its numbers are 0 where they are 0 as one number. Cited by blank_place's proof.
+-- A blank place: all its numbers are 0 where they are 0 as one number, and so are those of many places joined bit by bit. Cited by number_of's and row_ok's proofs.
 -- Assumes nothing.
-use mathlib.Core.Path.{_≡_, refl, sym, ap, _∙_}
+use mathlib.Core.Path.{_≡_, refl, sym, _∙_}
 use mathlib.Core.Logic.{⊎-elim}
-use mathlib.Core.Bool.{Bool, true, false, not, _&&_, and-false}
-use Prim.Native.Nat.{ℕ, _+_, _*_}
+use mathlib.Core.Bool.{Bool, true, false, not, _&&_}
+use Prim.Native.Nat.{ℕ, zero, suc, _+_, _*_, _/_, _%_, _≤_, max}
 use native.Mathlib.Omega.{arith}
+use mir.Val.{boolByte}
+use lib.Bits.{bitOr, or-step}
 use lib.Dec.{eqb}
 use borrow.Author.Tests.{eqb-true, eqb-false, eq-eqb, ne-eqb}
 use Rattle.laws.proofs.Lists.{by-cases}
@@ -28,20 +30,45 @@ parts a b = ⊎-elim low high (by-cases (eqb a 0))
     high : eqb a 0 ≡ false → eqb (a + b * 256) 0 ≡ (eqb a 0 && eqb b 0)
     high f = rw f (ne-eqb (a + b * 256) 0 (λ z. eqb-false a 0 f (omega (arith, z))))
 
-all-parts : (t b f i u c p : ℕ) → eqb (t + (b + (f + (i + (u + (c + p * 256) * 256) * 256) * 256) * 256) * 65536) 0
-    ≡ (eqb t 0 && (eqb b 0 && (eqb f 0 && (eqb i 0 && (eqb u 0 && (eqb c 0 && eqb p 0))))))
-all-parts t b f i u c p =
-    let rest = b + (f + (i + (u + (c + p * 256) * 256) * 256) * 256) * 256 in
-    let same : t + rest * 65536 ≡ t + (0 + rest * 256) * 256 = omega arith in
-    let wide : eqb (t + rest * 65536) 0 ≡ eqb (t + (0 + rest * 256) * 256) 0 = ap (λ (n : ℕ). eqb n 0) same in
-    wide ∙ parts t (0 + rest * 256) ∙ rw (parts 0 rest, parts b (f + (i + (u + (c + p * 256) * 256) * 256) * 256), parts f (i + (u + (c + p * 256) * 256) * 256), parts i (u + (c + p * 256) * 256), parts u (c + p * 256), parts c p)
+-- the byte of a flag is 0 where it is not set
+no-flag : (b : Bool) → eqb (boolByte b) 0 ≡ not b
+no-flag true = refl
+no-flag false = refl
+
+pub flag-low : (b : Bool) → boolByte b ≤ 1
+flag-low true = omega arith
+flag-low false = omega arith
 
 pub blank-told : (x : Booking) (down : Bool) → down ≡ isDown (x .direction)
-    → (not down && eqb (x .timeslot + (x .burst + (x .factor + (x .index + (x .user + (x .tfci + x .tpc * 256) * 256) * 256) * 256) * 256) * 65536) 0) ≡ isBlank x
+    → eqb (x .timeslot + (boolByte down + (x .burst + (x .factor + (x .index + (x .user + (x .tfci + x .tpc * 256) * 256) * 256) * 256) * 256) * 256) * 256) 0 ≡ isBlank x
 unfolding isBlank
 blank-told x down e =
-    rw (e, all-parts (x .timeslot) (x .burst) (x .factor) (x .index) (x .user) (x .tfci) (x .tpc)) (swapped (not (isDown (x .direction))) (eqb (x .timeslot) 0) _)
+    let c = x .tfci + x .tpc * 256 in
+    let u = x .user + c * 256 in
+    let i = x .index + u * 256 in
+    let f = x .factor + i * 256 in
+    let b = x .burst + f * 256 in
+    rw (parts (x .timeslot) (boolByte down + b * 256), parts (boolByte down) b, parts (x .burst) f, parts (x .factor) i, parts (x .index) u, parts (x .user) c, parts (x .tfci) (x .tpc), no-flag down, e)
+
+-- ---- numbers joined bit by bit are 0 where both are
+halves : (f a b : ℕ) → a + b ≤ f → bitOr a b ≡ 0 → (a ≡ 0) × (b ≡ 0)
+halves zero a b le e = (omega arith, omega arith)
+halves (suc f) a b le e =
+    let z : bitOr (a / 2) (b / 2) * 2 + max (a % 2) (b % 2) ≡ 0 = sym (or-step a b) ∙ e in
+    let q = halves f (a / 2) (b / 2) (omega arith) (omega (arith, z)) in
+    (omega (arith, z, q .0, q .1), omega (arith, z, q .0, q .1))
+
+pub or-zero : (a b : ℕ) → eqb (bitOr a b) 0 ≡ (eqb a 0 && eqb b 0)
+or-zero a b = ⊎-elim low high (by-cases (eqb a 0))
   where
-    swapped : (a b c : Bool) → (a && (b && c)) ≡ (b && (a && c))
-    swapped true b c = refl
-    swapped false b c = sym (and-false b)
+    low : eqb a 0 ≡ true → eqb (bitOr a b) 0 ≡ (eqb a 0 && eqb b 0)
+    low t = rw t (⊎-elim none some (by-cases (eqb b 0)))
+      where
+        none : eqb b 0 ≡ true → eqb (bitOr a b) 0 ≡ eqb b 0
+        none f = rw (eqb-true a 0 t, eqb-true b 0 f)
+
+        some : eqb b 0 ≡ false → eqb (bitOr a b) 0 ≡ eqb b 0
+        some f = ne-eqb (bitOr a b) 0 (λ z. eqb-false b 0 f (halves (a + b) a b (omega arith) z .1)) ∙ sym f
+
+    high : eqb a 0 ≡ false → eqb (bitOr a b) 0 ≡ (eqb a 0 && eqb b 0)
+    high f = rw f (ne-eqb (bitOr a b) 0 (λ z. eqb-false a 0 f (halves (a + b) a b (omega arith) z .0)))

@@ -1,4 +1,4 @@
--- A walk over a seat's bookings that keeps what those passed say: one booking more, and whether it clashes with one of them. Cited by slots_ok's proof.
+-- A walk over a seat's bookings that keeps what those passed say: one booking more, and whether it clashes with one of them. Cited by row_ok's proof.
 -- Assumes nothing.
 use mathlib.Core.Path.{_≡_, refl, sym, ap, _∙_}
 use mathlib.Core.Bool.{Bool, true, false, not, _&&_, Bool·not-not}
@@ -11,6 +11,7 @@ use lib.ListN.{length, take, set, getD, length-take}
 use lib.Seq.{take-suc, getD-take}
 use borrow.Author.Tests.{eqb-true}
 use Rattle.laws.specs.Lists.{every, pairs}
+use Rattle.laws.proofs.Bools.{and-true, both}
 use Rattle.laws.proofs.Lists.{every-at, every-front, every-weaker, every-alike}
 use Rattle.laws.proofs.Some.{some-every}
 use Rattle.laws.proofs.Matches.{pairs-behind}
@@ -25,6 +26,8 @@ use Rattle.slots.specs.Inside.{joinedWith, hitsWith}
 use Rattle.slots.proofs.OneMore.{joined-there, joined-elsewhere}
 use Rattle.slots.proofs.ByMasks.{goodCode, noClash, hits-clash}
 use Rattle.slots.proofs.Summary.{summary-at, summary-set}
+use Rattle.seats.specs.Conditions.{notPermitted, offBeacon}
+use Rattle.seats.specs.Seats.{stands}
 
 abbrev pub inForm : Booking → Bool
 inForm x = eqb (formOf x) 0
@@ -61,6 +64,27 @@ module _ (l : List Booking) (x : Booking) (fx : Formed x) where
         ∙ while-free (pairs noClash l) _ _ clear-of
         ∙ sym (pairs-behind noClash l x)
 
+one-more : (row : List Booking) (i : ℕ) (d : Booking) → i < length row → take (i + 1) row ≡ take i row ++ getD row i d ∷ []
+one-more row i d lt = ap (λ (j : ℕ). take j row) (add-one i) ∙ take-suc row i d lt
+
+-- ---- the walk over a row whose first i may stand, and the next
+behind : (p : Booking → Bool) (l : List Booking) (x : Booking) → every p l ≡ true → p x ≡ true → every p (l ++ x ∷ []) ≡ true
+unfolding every
+behind p [] x e h = both (p x) true h refl
+behind p (y ∷ l) x e h =
+    let q = and-true (p y) (every p l) e in
+    both (p y) (every p (l ++ x ∷ [])) (q .0) (behind p l x (q .1) h)
+
+module _ (case k long short : ℕ) (row : List Booking) (i : ℕ) (d : Booking) (lt : i < length row) (past : every (stands case k long short) (take i row) ≡ true)
+    (fit : stands case k long short (getD row i d) ≡ true) where
+  pub stood-on : every (stands case k long short) (take (i + 1) row) ≡ true
+  stood-on = ap (every (stands case k long short)) (one-more row i d lt) ∙ behind (stands case k long short) (take i row) (getD row i d) past fit
+
+  pub forms-on : every inForm (take (i + 1) row) ≡ true
+  unfolding stands
+  forms-on =
+      every-weaker (stands case k long short) inForm (λ x e. and-true (eqb (formOf x) 0) (not (notPermitted long short x) && not (offBeacon case k x)) e .0) (take (i + 1) row) stood-on
+
 -- ---- the walk over a row, of which the first n are in form, at place i
 module _ (row : List Booking) (n i : ℕ) (d : Booking) (fits : n ≤ length row) (lt : i < n) (forms : every inForm (take n row) ≡ true) where
   abbrev here : Booking
@@ -87,7 +111,7 @@ module _ (row : List Booking) (n i : ℕ) (d : Booking) (fits : n ≤ length row
         → ok ≡ pairs noClash (take i row)
         → (set made (here .timeslot) more ≡ summaryOf (take (i + 1) row)) × ((ok && not hit) ≡ pairs noClash (take (i + 1) row))
     walk-on more ok hit ej eh eo =
-        let next : take i row ++ here ∷ [] ≡ take (i + 1) row = sym (take-suc row i d (omega arith)) ∙ ap (λ (j : ℕ). take j row) (sym (add-one i)) in (
+        let next : take i row ++ here ∷ [] ≡ take (i + 1) row = sym (one-more row i d (omega arith)) in (
           ap (λ (m : List Slot). set m (here .timeslot) more) em
               ∙ ap (λ (s : Slot). set (summaryOf (take i row)) (here .timeslot) s) (ej ∙ ap (λ (s : Slot). joinedWith s here) kept-here)
               ∙ walked (take i row) here form-here ∙ ap summaryOf next,

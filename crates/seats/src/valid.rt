@@ -7,24 +7,23 @@ ghost use lib.ListN.{take, drop};
 ghost use Rattle.laws.specs.Lists.{every, chain, pairs, matches};
 ghost use Rattle.refusals.specs.Refusals.{firstOf};
 ghost use Rattle.tables.specs.Tables.{settingsRefusals};
-ghost use Rattle.bookings.specs.Bookings.{formOf, clash, comes};
+ghost use Rattle.bookings.specs.Bookings.{clash, comes};
 ghost use Rattle.slots.specs.Slots.{sameSlot, summaryOf};
 ghost use Rattle.seats.specs.Seats.{isBlank, stands, seatOk};
 use crate::Seat;
 use bookings::Booking;
 use slots::Slot;
 
-// All its numbers are 0, tested as one number of as many bytes as a booking has in memory.
-fn blank_place(x: Booking) -> bool
-    ensures { λ r. ⌜ r ≡ isBlank x ⌝ }
+// All its numbers as one of as many bytes as a booking has in memory, which is 0 where its place is blank.
+fn number_of(x: Booking) -> u64
+    ensures { λ r. ⌜ eqb r 0 ≡ isBlank x ⌝ }
 {
     let d = x.direction;
     let down = conditions::is_down(d);
     let control = (x.tfci as u64) + (x.tpc as u64) * 256;
     let code = (x.factor as u64)
         + ((x.index as u64) + ((x.user as u64) + control * 256) * 256) * 256;
-    let all = (x.timeslot as u64) + ((x.burst as u64) + code * 256) * 65536;
-    !down & (all == 0)
+    (x.timeslot as u64) + ((down as u64) + ((x.burst as u64) + code * 256) * 256) * 256
 }
 
 // Whether a booking may stand in a seat of these settings, the others left out.
@@ -43,62 +42,20 @@ fn may_stand(case: u8, k: u8, long: u8, short: u8, x: Booking) -> bool
     !off
 }
 
-// Whether of the first n each may stand, each comes before its neighbour, and every place from n on is blank. Neighbours are enough for the order of all pairs:
-// bookings/proofs/Order.antt. Three loops in one function: each function that takes places of a row copies the row first.
-fn row_ok(row: [Booking; 40], n: usize, case: u8, k: u8, long: u8, short: u8) -> bool
+// Whether of the first n each may stand, no two clash and each comes before its neighbour, the summary kept is what they say, and every place from n on is blank.
+// Each is tested against what those before it say of its timeslot, and joins them. Neighbours are enough for the order of all pairs: bookings/proofs/Order.antt.
+// Four loops in one function: each function that takes places of a row copies the row first.
+fn row_ok(
+    row: [Booking; 40],
+    n: usize,
+    kept: [Slot; 15],
+    case: u8,
+    k: u8,
+    long: u8,
+    short: u8,
+) -> bool
     requires { ⌜ n ≤ 40 ⌝ }
-    ensures { λ r. ⌜ r ≡ (every (stands case k long short) (take n row) && (chain comes (take n row) && every isBlank (drop n row))) ⌝ }
-{
-    let mut i: usize = 0;
-    while i < n {
-        let x = row[i];
-        let fit = may_stand(case, k, long, short, x);
-        if !fit {
-            return false;
-        }
-        i += 1;
-    }
-    let mut j: usize = 0;
-    while j + 1 < n {
-        let x = row[j];
-        let y = row[j + 1];
-        let fit = bookings::comes_before(x, y);
-        if !fit {
-            return false;
-        }
-        j += 1;
-    }
-    let mut p = n;
-    let mut ok = true;
-    while p < 40 {
-        let x = row[p];
-        let b = blank_place(x);
-        ok = ok & b;
-        p += 1;
-    }
-    ok
-}
-
-// Whether two summaries say the same of each timeslot.
-fn same_slots(a: [Slot; 15], b: [Slot; 15]) -> bool
-    ensures { λ r. ⌜ r ≡ matches sameSlot a b ⌝ }
-{
-    let mut t: usize = 0;
-    let mut ok = true;
-    while t < 15 {
-        let x = a[t];
-        let y = b[t];
-        let same = slots::same_slot(x, y);
-        ok = ok & same;
-        t += 1;
-    }
-    ok
-}
-
-// Whether of the first n no two clash, and the summary kept is what they say. Each is tested against what those before it say of its timeslot, and joins them.
-fn slots_ok(row: [Booking; 40], n: usize, kept: [Slot; 15]) -> bool
-    requires { ⌜ (n ≤ 40) × (every (λ x. eqb (formOf x) 0) (take n row) ≡ true) ⌝ }
-    ensures { λ r. ⌜ r ≡ (pairs (λ x y. not (clash x y)) (take n row) && matches sameSlot kept (summaryOf (take n row))) ⌝ }
+    ensures { λ r. ⌜ r ≡ (every (stands case k long short) (take n row) && (((pairs (λ x y. not (clash x y)) (take n row) && chain comes (take n row)) && matches sameSlot kept (summaryOf (take n row))) && every isBlank (drop n row))) ⌝ }
 {
     let none = slots::no_slot();
     let mut made = [none; 15];
@@ -106,6 +63,10 @@ fn slots_ok(row: [Booking; 40], n: usize, kept: [Slot; 15]) -> bool
     let mut ok = true;
     while i < n {
         let x = row[i];
+        let fit = may_stand(case, k, long, short, x);
+        if !fit {
+            return false;
+        }
         let t = x.timeslot as usize;
         let s = made[t];
         let hit = slots::hits(s, x);
@@ -114,8 +75,31 @@ fn slots_ok(row: [Booking; 40], n: usize, kept: [Slot; 15]) -> bool
         made[t] = more;
         i += 1;
     }
-    let same = same_slots(kept, made);
-    ok & same
+    let mut j: usize = 0;
+    while j + 1 < n {
+        let x = row[j];
+        let y = row[j + 1];
+        let fit = bookings::comes_before(x, y);
+        ok = ok & fit;
+        j += 1;
+    }
+    let mut t: usize = 0;
+    while t < 15 {
+        let x = kept[t];
+        let y = made[t];
+        let same = slots::same_slot(x, y);
+        ok = ok & same;
+        t += 1;
+    }
+    let mut p = n;
+    let mut all: u64 = 0;
+    while p < 40 {
+        let x = row[p];
+        let b = number_of(x);
+        all = all | b;
+        p += 1;
+    }
+    ok & (all == 0)
 }
 
 // A closed seat has no settings and holds nothing.
@@ -145,14 +129,10 @@ pub fn seat_ok(s: Seat) -> bool
     ensures { λ r. ⌜ r ≡ seatOk s ⌝ }
 {
     let row = s.row;
+    let slots = s.slots;
     let n = crate::held_by(s.count);
     let bare = is_bare(s.live, s.cell, s.case, s.k, s.long, s.short, s.count);
     let good = settings_pass(s.cell, s.case, s.k, s.long, s.short);
-    let fit = row_ok(row, n, s.case, s.k, s.long, s.short);
-    if !fit {
-        return false;
-    }
-    let slots = s.slots;
-    let agree = slots_ok(row, n, slots);
-    (bare | (s.live & good)) & ((s.count <= 40) & agree)
+    let fit = row_ok(row, n, slots, s.case, s.k, s.long, s.short);
+    (bare | (s.live & good)) & ((s.count <= 40) & fit)
 }

@@ -1,7 +1,6 @@
 -- `growth::book_sum` is safe and ends.
 -- Assumes nothing.
 use Prim.Native.Nat.{_-_, _≤_}
-use native.Mathlib.Omega.{arith}
 use borrow.Author.Needs.{needs}
 use Rattle.growth.proofs.book_sum.Statement.{statement}
 use Rattle.growth.proofs.book_sum.Tie as tie
@@ -30,6 +29,9 @@ next-requires c κs = search needs
 row-sum-requires : tie.Need-row-sum-requires Inv-loop μ-loop
 row-sum-requires c κs = search needs
 
+slots-sum-requires : tie.Need-slots-sum-requires Inv-loop μ-loop
+slots-sum-requires c κs = search needs
+
 add-n : tie.Need-add-n Inv-loop μ-loop
 add-n c = search needs
 
@@ -54,6 +56,7 @@ book-sum-spec =
     cast-next
     next-requires
     row-sum-requires
+    slots-sum-requires
     add-n
     loop-less
     loop-again

@@ -6,8 +6,8 @@ use borrow.Author.Needs.{needs}
 use Rattle.mqarbset_book.proofs.writing.write_slot.Statement.{statement}
 use Rattle.mqarbset_book.proofs.writing.write_slot.Tie as tie
 
-way-number-requires : tie.Need-way-number-requires
-way-number-requires c κs = search needs
+write-way-requires : tie.Need-write-way-requires
+write-way-requires c κs = search needs
 
 cast-t5 : tie.Need-cast-t5
 cast-t5 c = search needs
@@ -20,7 +20,7 @@ cast-t8 c = search needs
 
 returns : tie.Need-returns
 unfolding writeSlot
-returns c = simp (c .before .before .before .way-number .ensures, flag-byte (c .before .before .before .before .args .x .second))
+returns c = simp (c .before .before .before .write-way .ensures, flag-byte (c .before .before .before .before .args .x .second))
 
 pub write-slot-spec : {M : Type 1} → statement M
-write-slot-spec = tie.close (tie.spec way-number-requires cast-t5 cast-t7 cast-t8 returns)
+write-slot-spec = tie.close (tie.spec write-way-requires cast-t5 cast-t7 cast-t8 returns)

@@ -450,7 +450,7 @@ MQ_MUST_USE static inline mq_answer mq_list(const mq_book *book, uint32_t seat, 
     return mq_list_bytes(mq_held(book), seat, (unsigned char *)records, lent * MQ_RECORD_BYTES);
 }
 
-/* Which codes of a timeslot a seat has free. The book stays as it is, and no other seat is looked at.
+/* Which codes of a timeslot a seat has free. The book stays as it is, and nothing of another seat is told.
  *   seat         0 to 15, open
  *   timeslot     0 to 14
  * Code (factor, index) is free where none of its leaves is covered: with n = MQ_LEAVES / factor,

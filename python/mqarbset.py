@@ -510,8 +510,8 @@ class Book:
         return [Booking(*records[i:i + _RECORD_BYTES]) for i in range(0, len(records), _RECORD_BYTES)]
 
     def summary(self, seat: int, timeslot: int) -> Summary:
-        """Which codes of a timeslot a seat has free; seat 0 to 15, open; timeslot 0 to 14. No other seat is
-        looked at. Refused with 5, 12, 13, 14."""
+        """Which codes of a timeslot a seat has free; seat 0 to 15, open; timeslot 0 to 14. Nothing of another
+        seat is told. Refused with 5, 12, 13, 14."""
         answer = _call('mq_summary_value', self._held(), seat=seat, timeslot=timeslot)
         leaves = tuple(bool(answer.leaves >> leaf & 1) for leaf in range(_LEAVES))
         return Summary(leaves, answer.direction if answer.count else None, answer.count)

@@ -1,4 +1,4 @@
--- The first leaf of a booking's code, as the code computes it. Cited by comes_before's proof.
+-- The first leaf of a booking's code, as the code computes it. Cited by key_of's proof.
 -- Assumes nothing.
 use mathlib.Core.Path.{_≡_}
 use Prim.Native.Nat.{ℕ, _-_, _*_}

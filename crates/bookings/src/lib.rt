@@ -3,7 +3,7 @@ ghost use mathlib.Core.Path.{_≡_};
 ghost use mathlib.Core.Bool.{not, _&&_, _||_};
 ghost use Prim.Native.Nat.{_≤_};
 ghost use lib.Dec.{eqb};
-ghost use Rattle.bookings.specs.Bookings.{formOf, leaf, comes, breaksBeacon};
+ghost use Rattle.bookings.specs.Bookings.{formOf, key, comes, breaksBeacon};
 use conditions::Direction;
 
 // A booking of a seat. Its numbers were tested when it was booked, so they are kept in a byte each.
@@ -35,23 +35,22 @@ pub fn form_of(x: Booking) -> u32
     )
 }
 
-// Whether x comes before y in a list, where their codes begin at the leaves a and b.
-fn comes_over(x: Booking, y: Booking, a: u32, b: u32) -> bool
-    requires { ⌜ (a ≡ leaf x) × (b ≡ leaf y) × (a ≤ 4080) × (b ≤ 4080) ⌝ }
-    ensures { λ r. ⌜ r ≡ comes x y ⌝ }
+// Where a booking stands in a list: by timeslot, then by the first of 16 leaves.
+pub fn key_of(x: Booking) -> u32
+    ensures { λ r. ⌜ (r ≡ key x) × (r ≤ 8160) ⌝ }
 {
-    (x.timeslot as u32) * 16 + a < (y.timeslot as u32) * 16 + b
+    let n = leaves::leaves_of(x.factor);
+    let a = leaves::leaf_at(x.index, n);
+    (x.timeslot as u32) * 16 + a
 }
 
 // Whether x comes before y in a list.
 pub fn comes_before(x: Booking, y: Booking) -> bool
     ensures { λ r. ⌜ r ≡ comes x y ⌝ }
 {
-    let m = leaves::leaves_of(x.factor);
-    let n = leaves::leaves_of(y.factor);
-    let a = leaves::leaf_at(x.index, m);
-    let b = leaves::leaf_at(y.index, n);
-    comes_over(x, y, a, b)
+    let a = key_of(x);
+    let b = key_of(y);
+    a < b
 }
 
 // Rule (a) is broken: only downlink type 1 is booked.

@@ -1,48 +1,14 @@
--- Neighbours: a loop that tests them, and that they are enough: for a relation that is transitive among those that pass a test, a chain of neighbours is a relation of all pairs. Cited by the crate seats.
+-- Neighbours are enough: for a relation that is transitive among those that pass a test, a chain of neighbours is a relation of all pairs. Cited by the crate seats.
 -- Assumes nothing.
 use mathlib.Core.Path.{_≡_, refl, sym, ap, _∙_}
 use mathlib.Core.Logic.{⊎-elim}
-use mathlib.Core.Bool.{Bool, true, false, _&&_, and-false, and-assoc}
+use mathlib.Core.Bool.{Bool, true, false, _&&_, and-false}
 use mathlib.Core.Bool as bool
 use mathlib.Core.List.{List, [], _∷_}
-use Prim.Native.Nat.{ℕ, _+_, _≤_, _<_}
-use native.Mathlib.Omega.{arith}
-use lib.Dec.{ltb}
-use lib.ListN.{length, take, drop, getD}
-use borrow.Author.Tests.{ltb-true, ltb-false}
 use Rattle.laws.specs.Lists.{every, pairs, chain}
 use Rattle.laws.proofs.Bools.{and-true}
 use Rattle.laws.proofs.Cases.{by-cases}
 use Rattle.laws.proofs.Lists.{hd, tl, cons}
-use Rattle.laws.proofs.Rows.{left-none, left-one}
-
--- A loop that asks of the first n whether each stands in the relation to its neighbour: what was passed does, and the rest is to be tested.
-module _ {A : Type 0} (R : A → A → Bool) (xs : List A) (n i : ℕ) (d : A) where
-  pub chain-turn : (ok h w : Bool) → i + 1 < n → n ≤ length xs → (ok && chain R (drop i (take n xs))) ≡ w → h ≡ R (getD xs i d) (getD xs (i + 1) d)
-      → ((ok && h) && chain R (drop (i + 1) (take n xs))) ≡ w
-  unfolding chain
-  chain-turn ok h w lt fit inv e =
-      let x = getD xs i d in
-      let y = getD xs (i + 1) d in
-      let first : drop i (take n xs) ≡ x ∷ drop (i + 1) (take n xs) = left-one xs n i d (omega arith) fit in
-      let second : drop (i + 1) (take n xs) ≡ y ∷ drop (i + 1 + 1) (take n xs) = left-one xs n (i + 1) d lt fit in
-      let step : chain R (drop i (take n xs)) ≡ (R x y && chain R (drop (i + 1) (take n xs))) =
-      ap (chain R) (first ∙ ap (λ (l : List A). x ∷ l) second) ∙ ap (λ (l : List A). R x y && chain R l) (sym second) in
-      and-assoc ok h _ ∙ ap (λ (b : Bool). ok && (b && chain R (drop (i + 1) (take n xs)))) e ∙ ap (λ (b : Bool). ok && b) (sym step) ∙ inv
-
-  -- one at most is left, and has no neighbour
-  last : n ≤ i + 1 → n ≤ length xs → chain R (drop i (take n xs)) ≡ true
-  unfolding chain
-  last le fit =
-      ⊎-elim
-      (λ t. ap (chain R) (left-one xs n i d (ltb-true i n t) fit ∙ ap (λ (l : List A). getD xs i d ∷ l) (left-none xs n (i + 1) le)))
-      (λ f. ap (chain R) (left-none xs n i (ltb-false i n f)))
-      (by-cases (ltb i n))
-
-  pub chain-ended : (ok w : Bool) → n ≤ i + 1 → n ≤ length xs → (ok && chain R (drop i (take n xs))) ≡ w → ok ≡ w
-  chain-ended ok w le fit inv = sym (bool.and-true ok) ∙ ap (λ (b : Bool). ok && b) (sym (last le fit)) ∙ inv
-
--- ---- neighbours are enough
 
 module _ {A : Type 0} (R : A → A → Bool) (p : A → Bool)
     (trans : (x y z : A) → p x ≡ true → p y ≡ true → p z ≡ true → R x y ≡ true → R y z ≡ true → R x z ≡ true) where

@@ -23,7 +23,7 @@ pub struct MqBooking {
     pub tpc: u8,
 }
 
-// What is kept of a timeslot, in five bytes: the pattern's low and high byte, the way (0 up, 1 down, 2 neither), how many bookings, and 1 where they are type 2.
+// What is kept of a timeslot, in five bytes: the pattern's low and high byte, the way (0 neither, 1 up, 2 down), how many bookings, and 1 where they are type 2.
 #[repr(C)]
 pub struct MqSlot {
     pub low: u8,

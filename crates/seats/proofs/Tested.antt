@@ -40,17 +40,18 @@ two-in-one l = sym (pairs-both comes noClash l)
 abbrev pub rowTests : Seat → ℕ → Bool
 rowTests s n =
     every (standsIn s) (take n (s .row))
-    && (((pairs noClash (take n (s .row)) && chain comes (take n (s .row))) && matches sameSlot (s .slots) (summaryOf (take n (s .row)))) && every isBlank (drop n (s .row)))
+    && (((pairs noClash (take n (s .row)) && matches sameSlot (s .slots) (summaryOf (take n (s .row)))) && chain comes (take n (s .row))) && every isBlank (drop n (s .row)))
 
-turned : (a p c m b : Bool) → (a && (((p && c) && m) && b)) ≡ (a && ((c && p) && (b && m)))
-turned false p c m b = refl
-turned true false false m b = refl
-turned true false true m b = refl
-turned true true false m b = refl
+turned : (a p m c b : Bool) → (a && (((p && m) && c) && b)) ≡ (a && ((c && p) && (b && m)))
+turned false p m c b = refl
+turned true false m false b = refl
+turned true false m true b = refl
+turned true true false false b = refl
+turned true true false true true = refl
+turned true true false true false = refl
+turned true true true false b = refl
 turned true true true true true = refl
 turned true true true true false = refl
-turned true true true false true = refl
-turned true true true false false = refl
 
 module _ (s : Seat) (n : ℕ) (en : n ≡ held s) where
   in-order : (chain comes (bookings s) && pairs noClash (bookings s)) ≡ pairs fine (bookings s)
@@ -60,7 +61,7 @@ module _ (s : Seat) (n : ℕ) (en : n ≡ held s) where
       ≡ (every (standsIn s) (bookings s) && (pairs fine (bookings s) && (every isBlank (drop (held s) (s .row)) && matches sameSlot (s .slots) (summaryOf (bookings s)))))
   all-tests =
       ap (rowTests s) en
-      ∙ turned (every (standsIn s) (bookings s)) (pairs noClash (bookings s)) (chain comes (bookings s)) (matches sameSlot (s .slots) (summaryOf (bookings s)))
+      ∙ turned (every (standsIn s) (bookings s)) (pairs noClash (bookings s)) (matches sameSlot (s .slots) (summaryOf (bookings s))) (chain comes (bookings s))
       (every isBlank (drop (held s) (s .row)))
       ∙ ap (λ (o : Bool). every (standsIn s) (bookings s) && (o && (every isBlank (drop (held s) (s .row)) && matches sameSlot (s .slots) (summaryOf (bookings s))))) in-order
 

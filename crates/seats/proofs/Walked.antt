@@ -64,7 +64,7 @@ module _ (l : List Booking) (x : Booking) (fx : Formed x) where
         ∙ while-free (pairs noClash l) _ _ clear-of
         ∙ sym (pairs-behind noClash l x)
 
-one-more : (row : List Booking) (i : ℕ) (d : Booking) → i < length row → take (i + 1) row ≡ take i row ++ getD row i d ∷ []
+pub one-more : (row : List Booking) (i : ℕ) (d : Booking) → i < length row → take (i + 1) row ≡ take i row ++ getD row i d ∷ []
 one-more row i d lt = ap (λ (j : ℕ). take j row) (add-one i) ∙ take-suc row i d lt
 
 -- ---- the walk over a row whose first i may stand, and the next

@@ -43,8 +43,8 @@ fn may_stand(case: u8, k: u8, long: u8, short: u8, x: Booking) -> bool
 }
 
 // Whether of the first n each may stand, no two clash and each comes before its neighbour, the summary kept is what they say, and every place from n on is blank.
-// Each is tested against what those before it say of its timeslot, and joins them. Neighbours are enough for the order of all pairs: bookings/proofs/Order.antt.
-// Four loops in one function: each function that takes places of a row copies the row first.
+// Each is tested against what those before it say of its timeslot, and joins them; its key lies behind that of the one before it. Neighbours are enough for the order
+// of all pairs: bookings/proofs/Order.antt. Three loops in one function: each function that takes places of a row copies the row first.
 fn row_ok(
     row: [Booking; 40],
     n: usize,
@@ -55,12 +55,14 @@ fn row_ok(
     short: u8,
 ) -> bool
     requires { ⌜ n ≤ 40 ⌝ }
-    ensures { λ r. ⌜ r ≡ (every (stands case k long short) (take n row) && (((pairs (λ x y. not (clash x y)) (take n row) && chain comes (take n row)) && matches sameSlot kept (summaryOf (take n row))) && every isBlank (drop n row))) ⌝ }
+    ensures { λ r. ⌜ r ≡ (every (stands case k long short) (take n row) && (((pairs (λ x y. not (clash x y)) (take n row) && matches sameSlot kept (summaryOf (take n row))) && chain comes (take n row)) && every isBlank (drop n row))) ⌝ }
 {
     let none = slots::no_slot();
     let mut made = [none; 15];
     let mut i: usize = 0;
     let mut ok = true;
+    let mut next: u32 = 0;
+    let mut sorted = true;
     while i < n {
         let x = row[i];
         let fit = may_stand(case, k, long, short, x);
@@ -73,15 +75,10 @@ fn row_ok(
         ok = ok & !hit;
         let more = slots::joined(s, x);
         made[t] = more;
+        let key = bookings::key_of(x);
+        sorted = sorted & (next <= key);
+        next = key + 1;
         i += 1;
-    }
-    let mut j: usize = 0;
-    while j + 1 < n {
-        let x = row[j];
-        let y = row[j + 1];
-        let fit = bookings::comes_before(x, y);
-        ok = ok & fit;
-        j += 1;
     }
     let mut t: usize = 0;
     while t < 15 {
@@ -99,7 +96,7 @@ fn row_ok(
         all = all | b;
         p += 1;
     }
-    ok & (all == 0)
+    (ok & sorted) & (all == 0)
 }
 
 // A closed seat has no settings and holds nothing.

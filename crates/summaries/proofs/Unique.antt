@@ -21,5 +21,9 @@ unfolding saidSummary reply-of
 back (Refused n) = refl
 back (Summed g) = refl
 
+-- each reply says one answer, and no other says it
+pub said-summary-once : (r r' : SummaryReply) → saidSummary r ≡ saidSummary r' → r ≡ r'
+said-summary-once r r' e = sym (back r) ∙ ap reply-of e ∙ back r'
+
 pub summary-unique : (κs : _) (a : _) (r r' : _) (s s' : _) → summary.Post κs a r s → summary.Post κs a r' s' → r ≡ r'
-summary-unique κs a r r' s s' p q = sym (back r) ∙ ap reply-of (p ∙ sym q) ∙ back r'
+summary-unique κs a r r' s s' p q = said-summary-once r r' (p ∙ sym q)

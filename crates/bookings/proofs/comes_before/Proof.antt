@@ -1,41 +1,26 @@
--- `bookings::comes_before` meets its contract: the leaves of both codes are taken once.
+-- `bookings::comes_before` meets its contract: the keys are compared.
 -- Assumes nothing.
-use Rattle.bookings.proofs.Leaves.{leaf-told}
+use mathlib.Core.Path.{_≡_}
+use Prim.Native.Nat.{ℕ}
+use lib.Dec.{ltb}
+use Rattle.bookings.specs.declared.Booking.{Booking}
+use Rattle.bookings.specs.Bookings.{key, comes}
 use borrow.Author.Needs.{needs}
 use Rattle.bookings.proofs.comes_before.Statement.{statement}
 use Rattle.bookings.proofs.comes_before.Tie as tie
 
-leaves-of-requires : tie.Need-leaves-of-requires
-leaves-of-requires c κs = search needs
+as-defined : (x y : Booking) (a b : ℕ) → a ≡ key x → b ≡ key y → ltb a b ≡ comes x y
+unfolding comes
+as-defined x y a b ea eb = rw (ea, eb)
 
-leaves-of-requires-2 : tie.Need-leaves-of-requires-2
-leaves-of-requires-2 c κs = search needs
+key-of-requires : tie.Need-key-of-requires
+key-of-requires c κs = search needs
 
-leaf-at-requires : tie.Need-leaf-at-requires
-leaf-at-requires c κs = search needs
-
-leaf-at-requires-2 : tie.Need-leaf-at-requires-2
-leaf-at-requires-2 c κs = search needs
-
-comes-over-requires : tie.Need-comes-over-requires
-comes-over-requires c κs =
-    let s = c .before .before .before .before in
-    let m = c .before .before .before .leaves-of .ensures in
-    let n = c .before .before .leaves-of2 .ensures in
-    let a = c .before .leaf-at .ensures in
-    let b = c .leaf-at2 .ensures in
-    (leaf-told (s .args .x) _ _ (m .0) (a .0), leaf-told (s .args .y) _ _ (n .0) (b .0), a .1, b .1)
+key-of-requires-2 : tie.Need-key-of-requires-2
+key-of-requires-2 c κs = search needs
 
 returns : tie.Need-returns
-returns c = search needs
+returns c = as-defined _ _ _ _ (c .before .key-of .ensures .0) (c .key-of2 .ensures .0)
 
 pub comes-before-spec : {M : Type 1} → statement M
-comes-before-spec =
-    tie.close
-    (tie.spec
-    leaves-of-requires
-    leaves-of-requires-2
-    leaf-at-requires
-    leaf-at-requires-2
-    comes-over-requires
-    returns)
+comes-before-spec = tie.close (tie.spec key-of-requires key-of-requires-2 returns)

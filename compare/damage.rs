@@ -38,6 +38,24 @@ pub fn summary_bytes() -> impl Iterator<Item = usize> {
     (0..16).flat_map(|seat| slot_place(seat, 0)..slot_place(seat, TIMESLOTS))
 }
 
+/// What a seat's bookings say of its timeslots, put down again: only what else is asked of a book can then refuse it.
+fn sum_again(b: &mut MqBook, seat: usize) {
+    b.0[slot_place(seat, 0)..slot_place(seat, TIMESLOTS)].fill(0);
+    for place in 0..b.0[seat_place(seat) + 6] as usize {
+        let booking = booking_place(seat, place);
+        let [timeslot, direction, burst, factor, index] =
+            [0, 1, 2, 3, 4].map(|byte| b.0[booking + byte]);
+        let leaves = 16 / factor as u32;
+        let mask = ((1u32 << leaves) - 1) << ((index as u32 - 1) * leaves);
+        let slot = slot_place(seat, timeslot as usize);
+        b.0[slot] |= mask as u8;
+        b.0[slot + 1] |= (mask >> 8) as u8;
+        b.0[slot + 2] = b.0[slot + 2].max(1 + direction);
+        b.0[slot + 3] += 1;
+        b.0[slot + 4] |= (burst == 2) as u8;
+    }
+}
+
 /// A copy of a book that surely breaks its conditions.
 pub fn broken(dice: &mut Dice, whole: &MqBook) -> MqBook {
     let mut b = *whole;
@@ -67,12 +85,16 @@ pub fn broken(dice: &mut Dice, whole: &MqBook) -> MqBook {
                 b.0.swap(first + byte, second + byte);
             }
         }
-        8 if held >= 2 => b.0.copy_within(first..first + BOOKING_BYTES, second),
+        8 if held >= 2 => {
+            b.0.copy_within(first..first + BOOKING_BYTES, second);
+            sum_again(&mut b, seat);
+        }
         // exactly one of two in a timeslot is type 2
         9 if together < held => {
             let booking = booking_place(seat, together);
             b.0[booking + BURST_TYPE] = if b.0[booking + BURST_TYPE] == 2 { 1 } else { 2 };
             b.0[booking + USER] = 3;
+            sum_again(&mut b, seat);
         }
         // a count that is none: 0 is left, or the long one is a short code's, or the short one is 4
         10 if live => b.0[start + LONG_COUNT] = dice.pick(&[0, 3, 5, 6, 7, 12, 17, 255]),

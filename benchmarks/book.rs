@@ -264,7 +264,7 @@ pub fn compare() -> u32 {
 fn class_book(long: u32) -> MqBook {
     let mut b = plain::empty();
     for seat in 0..15 {
-        b = plain::open(b, seat, seat, 1, 0, long, 0).book;
+        b = plain::open(b, seat, seat, 1, 0, long, 6).book;
         for turn in 0..8 {
             b = plain::book(b, seat, wanted(long, turn)).book;
         }
@@ -276,7 +276,7 @@ fn class_book(long: u32) -> MqBook {
 fn opened_book(bookings: u32) -> MqBook {
     let mut b = plain::empty();
     for seat in 0..16 {
-        b = plain::open(b, seat, seat, 1, 0, 0, 0).book;
+        b = plain::open(b, seat, seat, 1, 0, 16, 6).book;
     }
     for j in 0..bookings {
         let (seat, turn) = if j < 160 { (j % 16, j / 16) } else { (j % 8, j / 8 - 10) };
@@ -307,7 +307,7 @@ fn wanted(long: u32, turn: u32) -> [u32; 8] {
 
 pub fn lines() -> Vec<Line> {
     let (b, wide) = (class_book(16), class_book(4));
-    let cells = (0..60).collect();
+    let cells = || (0..60).collect();
     let seats = || (0..60).map(|i| i % 15).collect();
     let more = (0..60).map(|i| (i % 15, wanted(16, 8 + i / 15))).collect();
     let odd = (0..60).map(|i| (i % 15, wanted(4, 8 + i / 15))).collect();
@@ -319,9 +319,15 @@ pub fn lines() -> Vec<Line> {
             .with_limit(&limits::EMPTY_BOOK),
         Line::new(
             "open",
-            cells,
+            cells(),
             move |&cell| library::open(*black_box(&b), 15, cell, 1, 0, 0, 0),
             move |&cell| plain::open(*black_box(&b), 15, cell, 1, 0, 0, 0),
+        ),
+        Line::new(
+            "open, 16 and 6 outright",
+            cells(),
+            move |&cell| library::open(*black_box(&b), 15, cell, 1, 0, 16, 6),
+            move |&cell| plain::open(*black_box(&b), 15, cell, 1, 0, 16, 6),
         ),
         Line::new(
             "book",

@@ -63,7 +63,7 @@ mod plain {
     fn booked(n: u32) -> Book {
         let mut b = empty_book();
         for i in 0..16 {
-            b = open_seat(b, i, i, 1, 0, 0, 0).book;
+            b = open_seat(b, i, i, 1, 0, 16, 6).book;
         }
         for j in 0..n {
             b = book_code(b, seat_of(j), request_of(j, 1)).book;
@@ -119,8 +119,9 @@ mod plain {
     pub fn mixed(seed: u32, calls: u32) -> u32 {
         let mut b = empty_book();
         for i in 0..16 {
-            let t = i / 4 % 4;
-            b = open_seat(b, i, i, 1 + i % 2, i % 8, t * 4 + t / 3 * 4, i % 4 * 3).book;
+            let t = 3 - i / 4 % 4;
+            let (long, short) = (t * 4 + t / 3 * 4, (i % 4 * 7 + 6) % 10);
+            b = open_seat(b, i, i, 1 + i % 2, i % 8, long, short).book;
         }
         let mut sum = seed % 65536;
         let mut x = seed % 65536;

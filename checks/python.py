@@ -1,4 +1,4 @@
-"""The Python module beside what it says: users and counts, midambles by the block, rows of floats, summaries, threads, copies, pickles, wrong arguments, where the library is found, its version.
+"""The Python module beside what it says: users and counts, the default counts, midambles by the block, rows of floats, summaries, threads, copies, pickles, wrong arguments, where the library is found, its version.
 
     MQARBSET_LIBRARY=.. PYTHONPATH=python python3 checks/python.py TEMPORARY-FOLDER
 
@@ -49,7 +49,7 @@ def threads():
     """Sixteen threads on one book: what was accepted is there afterwards, and nothing else."""
     book, accepted = Book(), [0] * 16
     for seat in range(16):
-        book.open(seat, seat, 1, 0)
+        book.open(seat, seat, 1, 0, 16, 6)
 
     def lesson(seat):
         for turn in range(40):
@@ -179,6 +179,26 @@ def users():
     holds('4 is no count of type 2', raised(Refused, mqarbset.midamble, 17, 2, 4, 1).number == 3 and raised(Refused, Book().open, 0, 17, 1, 0, 4, 4).number == 3)
 
 
+def defaults():
+    """What a count that is not given, or is 0, stands for, long and short each by itself; and the users that such a seat has."""
+    def opened(*counts, **named):
+        book = Book()
+        book.open(0, 17, 1, 0, *counts, **named)
+        return book
+
+    holds('counts not given are 8 and 3', opened() == opened(0, 0) == opened(8, 3))
+    holds('each by itself', opened(long=16) == opened(16, 0) == opened(16, 3) and opened(short=6) == opened(0, 6) == opened(8, 6))
+    holds('other counts are others', all(a != b for a, b in itertools.combinations((opened(), opened(16), opened(0, 6), opened(16, 6), opened(4)), 2)))
+    for book, users, short in ((opened(), 8, 3), (opened(16, 6), 16, 6)):
+        for burst, last, full in ((1, users, 16), (3, users, 16), (2, short, 6)):
+            for user in range(1, full + 1):
+                if user <= last:
+                    book.book(0, 1, UP, burst, 16, 1, user)
+                    book.cancel(0, 1, 16, 1)
+                else:
+                    holds(f'user {user} above {last} is refused with 16', raised(Refused, book.book, 0, 1, UP, burst, 16, 1, user).number == 16)
+
+
 def summaries():
     """Which leaves a code covers, first leaf first, the direction and the number; by seat and timeslot, and what is refused."""
     book = Book()
@@ -270,6 +290,6 @@ def found():
 
 
 if __name__ == '__main__':
-    for part in (arguments, users, blocks, floats, summaries, books, pickles, threads, found):
+    for part in (arguments, users, defaults, blocks, floats, summaries, books, pickles, threads, found):
         part()
     print(f'python: {tried} things tried of the module, all as it says')

@@ -168,7 +168,7 @@ static int make_again(mq_book *book, const char *line)
 static void keep_and_make_again(const mq_book *book)
 {
     char lines[MQ_LIST_RECORDS + 1][LINE_BYTES];
-    size_t count = keep(book, 3, "0 1 0 16 6", lines);
+    size_t count = keep(book, 3, "0 1 0 8 3", lines);
     mq_book again = mq_empty_book();
     size_t made = 0;
     size_t i;
@@ -191,6 +191,7 @@ static void class_book(void)
     printf("book (16, 3) for user 4 in timeslot 2: %u\n", (unsigned)refusal);
     refusal = mq_book_code(&book, 3, 0, MQ_DOWN, 1, 16, 1, 1, 0, 0);
     printf("book (16, 1) for user 1 in timeslot 0: %u\n", (unsigned)refusal);
+    refused("book (16, 4) for user 9, who needs a seat opened with 16", mq_book_code(&book, 3, 2, MQ_DOWN, 1, 16, 4, 9, 0, 0));
     list(&book, 3);
     summary(&book, 3, 2);
     summary(&book, 3, 3);

@@ -79,6 +79,7 @@ def class_book():
     tried('open seat 3', book.open, 3, 0, 1, 0)
     tried('book (16, 3) for user 4 in timeslot 2', book.book, 3, 2, DOWN, 1, 16, 3, 4)
     tried('book (16, 1) for user 1 in timeslot 0', book.book, 3, 0, DOWN, 1, 16, 1, 1)
+    tried('book (16, 4) for user 9, who needs a seat opened with long=16', book.book, 3, 2, DOWN, 1, 16, 4, 9)
     print(f'{book}')
     for booking in book.list(3):
         print(f'  {booking}')
@@ -92,7 +93,7 @@ def class_book():
     tried('a summary of timeslot 15', book.summary, 3, 15)
 
     # What is kept of the plan; the same lines are a lesson for ./bench.
-    lines = kept(book, 3, 0, 1, 0, 16, 6)
+    lines = kept(book, 3, 0, 1, 0, 8, 3)
     for line in lines:
         print(f'  {line}')
     print(f'the book made again from these lines: {"the same" if made_again(lines) == book else "another"}')

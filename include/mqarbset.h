@@ -38,9 +38,9 @@ extern "C" {
 /* ---- version ---------------------------------------------------------------------------------------------------------------------------- */
 
 #define MQ_VERSION_MAJOR 0
-#define MQ_VERSION_MINOR 7
+#define MQ_VERSION_MINOR 8
 #define MQ_VERSION_PATCH 0
-#define MQ_VERSION 700          /* major times 10000, minor times 100, patch */
+#define MQ_VERSION 800          /* major times 10000, minor times 100, patch */
 #define MQ_ABI 2                /* libmqarbset.so.MQ_ABI; it changes when the book's size or a call that is there does; a new call alone does not move it */
 
 /* The library that runs, beside the header that a program was compiled with: MQ_VERSION there, and the bytes of a book there. A program that is
@@ -397,8 +397,9 @@ static inline uint32_t mq_taken(mq_book *book, const mq_book_answer *answer)
  *   seat         0 to 15, not open
  *   cell         cell parameter, 0 to 127
  *   sync, k      synchronisation case and its k, as for mq_beacon
- *   long_count   midambles of types 1 and 3: 4, 8, 16, or 0 for 16
- *   short_count  midambles of type 2: 3, 6, or 0 for 6
+ *   long_count   midambles of types 1 and 3: 4, 8, 16, or 0 for 8
+ *   short_count  midambles of type 2: 3, 6, or 0 for 3
+ * Users above 8 (type 2: above 3) need 16 and 6 outright; before version 0.8.0 a count of 0 stood for these.
  * Refusals: 1, 3, 9, 12, 13, 15. Stack: 60 KB. */
 MQ_MUST_USE static inline uint32_t mq_open(mq_book *book, uint32_t seat, uint32_t cell, uint32_t sync, uint32_t k, uint32_t long_count, uint32_t short_count)
 {

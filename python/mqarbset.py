@@ -24,7 +24,7 @@ __all__ = [
     'UP', 'DOWN', 'OFF', 'ON', 'TORN', 'Part', 'Span', 'Parts', 'Place', 'Indicator', 'Booking', 'Summary', 'Book', 'Blocks', 'BlockPlace',
     'Refused', 'refusal_text', 'midamble_chip', 'midamble', 'blocks', 'pair', 'pairs', 'parts', 'at', 'beacon', 'indicator', 'owner', 'page', 'read_page',
 ]
-__version__ = '0.7.0'
+__version__ = '0.8.0'
 
 UP, DOWN = 0, 1
 OFF, ON, TORN = 0, 1, 2
@@ -476,8 +476,9 @@ class Book:
     def open(self, seat: int, cell: int, sync: int, k: int, long: int = 0, short: int = 0) -> None:
         """Opens a seat.
 
-        seat 0 to 15, not open; cell 0 to 127; sync and k as for beacon; long 4, 8 or 16, or 0 for 16;
-        short 3 or 6, or 0 for 6. Refused with 1, 3, 9, 12, 13, 15.
+        seat 0 to 15, not open; cell 0 to 127; sync and k as for beacon; long 4, 8 or 16, or 0 for 8;
+        short 3 or 6, or 0 for 3. Users above 8 (type 2: above 3) need 16 and 6 outright. Refused with
+        1, 3, 9, 12, 13, 15.
         """
         self._changed('mq_open_value', seat=seat, cell=cell, sync=sync, k=k, long=long, short=short)
 

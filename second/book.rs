@@ -1,5 +1,5 @@
 //! Document 01, "The class book", with the rules (a) to (f) of "Beacon timeslots (clauses 5.3.4, 5.5)"; which burst
-//! types clash, and which users a seat's count permits, is document 02's.
+//! types clash, which users a seat's count permits, and what a count of 0 in opening means, is document 02's.
 //!
 //! The book here is a list of bookings for each open seat, in the order in which they were made. "Its form inside is
 //! the team's choice": this one holds nothing twice.
@@ -94,7 +94,7 @@ impl Record {
     }
 }
 
-/// What a seat is opened with. In opening, a count of 0 stands for 16 (long) or 6 (short); in the book there is no 0.
+/// What a seat is opened with. In opening, a count of 0 means 8 (long) or 3 (short); in the book there is no 0.
 #[derive(Clone, Copy, PartialEq)]
 pub struct Settings {
     pub cell: u32,
@@ -114,13 +114,13 @@ impl Settings {
         Ok(())
     }
 
-    /// "A count of 0 stands for 16 (long) or 6 (short)."
+    /// Document 02: a count of 0 in opening "means 8 and 3", the long count 8 and the short one 3, each by itself.
     fn without_zeros(mut self) -> Settings {
         if self.long_count == 0 {
-            self.long_count = 16;
+            self.long_count = 8;
         }
         if self.short_count == 0 {
-            self.short_count = 6;
+            self.short_count = 3;
         }
         self
     }

@@ -16,7 +16,8 @@ second: the independent program that the proved library is compared with
   second noise SEED BYTES       that many random bytes for the input of a lesson
   second rows-from SOURCE_FILE  the rows read from the scanned source 004, as in second/rows-004.txt
   second selftest               document 01's figures to check, and document 02's burst types, signal card, users
-                                under a count, midambles by the block, and summaries; exit 1 if one is wrong
+                                under a count, midambles by the block, summaries, and counts that are 0 in opening;
+                                exit 1 if one is wrong
   second --help                 this page
 ";
 

@@ -263,9 +263,19 @@ impl Writer<'_> {
         let cell = self.dice.below(128);
         let (case, last_k) = self.dice.pick(&[(1, 14), (2, 6)]);
         let k = self.dice.between(0, last_k);
-        let long_count = self.dice.pick(&[0, 4, 8, 16]);
-        let short_count = self.dice.pick(&[0, 0, 3, 6]);
+        let [long_count, short_count] = self.counts();
         format!("open {seat} {cell} {case} {k} {long_count} {short_count}")
+    }
+
+    /// The long and the short count of an opening: often both 0; else each by itself, mostly 16 and 6, so that many
+    /// seats permit users above 8, and above 3 of type 2.
+    fn counts(&mut self) -> [u32; 2] {
+        if self.dice.one_in(6) {
+            return [0, 0];
+        }
+        let long_count = self.dice.pick_by_weight(&[(1, 0), (2, 4), (1, 8), (6, 16)]);
+        let short_count = self.dice.pick_by_weight(&[(1, 0), (1, 3), (8, 6)]);
+        [long_count, short_count]
     }
 
     /// A booking that is accepted, or only lacks room, if a few attempts find one; now and then with any user in place

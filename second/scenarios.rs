@@ -1,5 +1,6 @@
 //! The scenarios of the class book in `second every`: calls only, no answers.
 
+mod defaults;
 mod summaries;
 
 use crate::book::{Book, Record, Settings, SEATS};
@@ -17,7 +18,8 @@ pub fn all(put: Put) -> io::Result<()> {
     burst_types(put)?;
     types_1_and_3(put)?;
     users(put)?;
-    summaries::all(put)
+    summaries::all(put)?;
+    defaults::all(put)
 }
 
 /// Seat 3 of "Figures to check".

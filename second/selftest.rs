@@ -1,14 +1,15 @@
 //! Document 01, "Figures to check", and the few facts that the chapters state beside their rules; and of document 02
-//! the burst types, the signal card, (`users`) the users that a count permits, (`blocks`) midambles by the block, and
-//! (`summaries`) free codes at a glance.
+//! the burst types, the signal card, (`users`) the users that a count permits, (`blocks`) midambles by the block,
+//! (`summaries`) free codes at a glance, and (`defaults`) what a count of 0 in opening means.
 
 mod blocks;
+mod defaults;
 mod summaries;
 mod users;
 
 use crate::beacons::{beacon_timeslots, words};
 use crate::book::{Book, Record, Settings, MOST_OF_A_SEAT};
-use crate::lesson::NO_BOOKING;
+use crate::lesson::{Bench, NO_BOOKING};
 use crate::midambles::{family, least_shift, one_chip, shift};
 use crate::paging::{indicator, owner, owner_words, place_words};
 use crate::refusals::{in_words, Answer};
@@ -60,6 +61,7 @@ fn figures(rows: &Rows) -> Vec<Figure> {
     figures.extend(burst_type_figures());
     figures.extend(room_figures());
     figures.extend(summaries::figures(rows));
+    figures.extend(defaults::figures(rows));
     figures.extend(damaged_book_figures());
     figures
 }
@@ -438,6 +440,17 @@ fn reply(answer: Answer<()>) -> String {
     in_words(answer, |()| "ok".to_string())
 }
 
+/// A lesson, each line with its whole reply. Where a reply has several lines, ` / ` stands between them.
+fn lesson(rows: &Rows, name: &str, lines: &[(&str, &str)]) -> Vec<Figure> {
+    let mut bench = Bench::new(rows);
+    let figures = (1..).zip(lines).map(|(number, (line, wanted))| {
+        let reply = bench.reply(number, line.as_bytes());
+        let reply = reply.trim_end_matches('\n').replace('\n', " / ");
+        figure(&format!("{name}, line {number}, {line}"), reply, wanted)
+    });
+    figures.collect()
+}
+
 /// Cell 0, counts 0, case 1, k 0.
 const CELL_0: Settings = Settings { cell: 0, case: 1, k: 0, long_count: 0, short_count: 0 };
 
@@ -493,7 +506,7 @@ fn seat_3_figures() -> Vec<Figure> {
         ),
         figure("seat 3, records left untouched", untouched, 43),
         figure("seat 3, a list in 39 records", reply(refused.map(|_| ())), "refused 11"),
-        figure("seat 3, cell, case, k and counts", settings, "0, 1, 0, 16, 6"),
+        figure("seat 3, cell, case, k and counts", settings, "0, 1, 0, 8, 3"),
     ]
 }
 
@@ -565,11 +578,12 @@ fn fill(book: &mut Book, seat: u32, most: u32) -> (usize, String) {
 }
 
 /// "Three seats hold 40, 40 and 30, nobody else any: those at 40 get 19, the third gets 20, and an empty seat still
-/// books 10."
+/// books 10." Their next booking is user 9's, whom the count 16 permits.
 fn room_figures() -> Vec<Figure> {
     let mut book = Book::empty();
     for seat in [0, 1, 2, 3] {
-        book.open(seat, CELL_0).expect("these seats are opened");
+        book.open(seat, Settings { long_count: 16, short_count: 6, ..CELL_0 })
+            .expect("these seats are opened");
     }
     let filled = [(0, 40), (1, 40), (2, 30)].map(|(seat, most)| fill(&mut book, seat, most));
     let holdings = filled.map(|(held, last)| format!("{held} {last}"));

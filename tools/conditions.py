@@ -1,4 +1,5 @@
-"""The words of the refusals, from their one home: the list `conditions` of crates/refusal_words/specs/Words.antt. Used by tools/words and tools/refusals."""
+"""The words of the refusals, from their one home: the list `conditions` of crates/refusal_words/specs/Words.antt; and the examples of docs/REFUSALS.md. Used by tools/words,
+tools/refusals and tools/defaults."""
 import re
 import sys
 from pathlib import Path
@@ -20,3 +21,8 @@ def conditions():
 def examples():
     """The rows of docs/REFUSALS.md: number, words, an example that gets it, one that does not."""
     return [(int(number), *rest) for number, *rest in ROW.findall(PAGE.read_text(encoding='utf-8'))]
+
+
+def quoted(cell):
+    """The lessons that a cell of such a row has, the lines of each with a semicolon between them."""
+    return re.findall(r'`([^`]+)`', cell)

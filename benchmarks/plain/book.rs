@@ -269,8 +269,8 @@ fn settings_refusal(cell: u32, long: u32, short: u32, sync: u32, k: u32) -> u32 
 
 /// A seat just opened with these settings. Refusals 1, 3, 9.
 fn opened(cell: u32, sync: u32, k: u32, long: u32, short: u32) -> Result<Seat, u32> {
-    let long = if long == 0 { 16 } else { long };
-    let short = if short == 0 { 6 } else { short };
+    let long = if long == 0 { 8 } else { long };
+    let short = if short == 0 { 3 } else { short };
     match settings_refusal(cell, long, short, sync, k) {
         0 => Ok(Seat {
             live: true,

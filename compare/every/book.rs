@@ -24,7 +24,7 @@ pub fn run(both: &mut Beside) {
 }
 
 /// A call on the book; the book afterwards.
-fn put(both: &mut Beside, call: &Call) -> MqBook {
+pub fn put(both: &mut Beside, call: &Call) -> MqBook {
     let b = both.book;
     match call.name {
         "open" => both.open(b, call.numbers()),

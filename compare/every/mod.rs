@@ -1,5 +1,6 @@
 //! Every question of docs/COMPARISON.md, over C.
 
+mod before;
 mod blocks;
 mod book;
 mod midambles;
@@ -20,6 +21,7 @@ pub fn run(rows: &Rows) -> Tally {
     signal_card::run(both);
     timeslots::run(both);
     paging::run(both);
+    before::run(both);
     book::run(both);
     both.tally.clone()
 }

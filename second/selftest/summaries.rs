@@ -2,10 +2,9 @@
 //! after open, book, cancel and close; what another seat holds; and what is refused.
 
 use super::users::each;
-use super::{figure, plain, Figure, CELL_0};
+use super::{figure, lesson, plain, Figure, CELL_0};
 use crate::book::{codes, Book, Record, SEATS};
 use crate::dice::Dice;
-use crate::lesson::Bench;
 use crate::refusals::in_words;
 use crate::rows::Rows;
 use crate::summaries::Summary;
@@ -251,16 +250,6 @@ fn order_figures() -> Vec<Figure> {
             "12 12 12 12 12 12 12 12 12 12 12 12 12 12 12 5 5 5 5 5",
         ),
     ]
-}
-
-/// A lesson, each line with its whole reply.
-fn lesson(rows: &Rows, name: &str, lines: &[(&str, &str)]) -> Vec<Figure> {
-    let mut bench = Bench::new(rows);
-    let figures = (1..).zip(lines).map(|(number, (line, wanted))| {
-        let reply = bench.reply(number, line.as_bytes());
-        figure(&format!("{name}, line {number}, {line}"), reply.trim_end_matches('\n'), wanted)
-    });
-    figures.collect()
 }
 
 /// The leaves of several bookings together, types 1 and 3 beside each other, and their number; what is cancelled goes,

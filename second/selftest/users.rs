@@ -165,7 +165,7 @@ fn wide_midamble_figures(rows: &Rows) -> Vec<Figure> {
     ]
 }
 
-/// Refusal 3 in opening, where "0 is allowed too" and "stands for 16 (long) or 6 (short)".
+/// Refusal 3 in opening, where "0 is allowed too" and "means 8 and 3".
 fn opening_figures() -> Vec<Figure> {
     let counts = |long_count, short_count| {
         let mut book = Book::empty();
@@ -185,52 +185,57 @@ fn opening_figures() -> Vec<Figure> {
             "ok 3 3 ok 3 3 ok 3 3 3 3 3 3 3 3 3 3 3 3 3",
         ),
         figure("a seat opened with 4 and 3", kept(4, 3), "4 and 3"),
-        figure("a seat opened with 4 and 0", kept(4, 0), "4 and 6"),
-        figure("a seat opened with 0 and 3", kept(0, 3), "16 and 3"),
+        figure("a seat opened with 4 and 0", kept(4, 0), "4 and 3"),
+        figure("a seat opened with 0 and 3", kept(0, 3), "8 and 3"),
         figure("a seat opened with 0 and 4", kept(0, 4), "refused 3"),
     ]
 }
 
 /// A book with seat 3 open with these counts, and its beacon timeslot 0.
-fn opened_with(long_count: u32, short_count: u32) -> Book {
+pub fn opened_with(long_count: u32, short_count: u32) -> Book {
     let mut book = Book::empty();
     book.open(3, Settings { long_count, short_count, ..CELL_0 }).expect("this seat is opened");
     book
 }
 
+/// What a seat answers to a booking of the type by each of the users 0 to 18 and the largest, each made by itself in
+/// timeslot 2.
+pub fn users_of_type(book: &Book, seat: u32, burst_type: u32) -> String {
+    let booking = |user| Record { burst_type, ..plain(2, Direction::Up, 3, user) };
+    each(|user| book.clone().book(seat, booking(user)))
+}
+
+// What these users get from a seat of each count: 16 where it does not permit them, 4 where no seat would.
+pub const OF_4: &str = "4 ok 16 ok 16 ok 16 ok 16 16 16 16 16 16 16 16 16 4 4 4";
+pub const OF_8: &str = "4 ok ok ok ok ok ok ok ok 16 16 16 16 16 16 16 16 4 4 4";
+pub const OF_16: &str = "4 ok ok ok ok ok ok ok ok ok ok ok ok ok ok ok ok 4 4 4";
+pub const OF_3: &str = "4 ok ok ok 16 16 16 4 4 4 4 4 4 4 4 4 4 4 4 4";
+pub const OF_6: &str = "4 ok ok ok ok ok ok 4 4 4 4 4 4 4 4 4 4 4 4 4";
+
 /// Document 02: 16 is "also given to an even user, or one above 7, under count 4", "the seat's own count included": the
 /// long one for types 1 and 3, the short one for type 2. Refusal 4 of a booking, which names no count, stays.
 fn seat_user_figures() -> Vec<Figure> {
-    let users_of_type = |[long_count, short_count, burst_type]: [u32; 3]| {
-        let book = opened_with(long_count, short_count);
-        let booking = |user| Record { burst_type, ..plain(2, Direction::Up, 3, user) };
-        each(|user| book.clone().book(3, booking(user)))
-    };
-    let wide = "4 ok 16 ok 16 ok 16 ok 16 16 16 16 16 16 16 16 16 4 4 4";
-    let eight = "4 ok ok ok ok ok ok ok ok 16 16 16 16 16 16 16 16 4 4 4";
-    let sixteen = "4 ok ok ok ok ok ok ok ok ok ok ok ok ok ok ok ok 4 4 4";
-    let three = "4 ok ok ok 16 16 16 4 4 4 4 4 4 4 4 4 4 4 4 4";
-    let six = "4 ok ok ok ok ok ok 4 4 4 4 4 4 4 4 4 4 4 4 4";
     let wanted = [
-        ([4, 3, 1], wide),
-        ([4, 6, 3], wide),
-        ([4, 3, 2], three),
-        ([4, 6, 2], six),
-        ([4, 0, 2], six),
-        ([8, 3, 1], eight),
-        ([8, 6, 3], eight),
-        ([8, 3, 2], three),
-        ([16, 3, 1], sixteen),
-        ([16, 6, 3], sixteen),
-        ([0, 3, 1], sixteen),
-        ([0, 0, 2], six),
+        ([4, 3, 1], OF_4),
+        ([4, 6, 3], OF_4),
+        ([4, 3, 2], OF_3),
+        ([4, 6, 2], OF_6),
+        ([4, 0, 2], OF_3),
+        ([8, 3, 1], OF_8),
+        ([8, 6, 3], OF_8),
+        ([8, 3, 2], OF_3),
+        ([16, 3, 1], OF_16),
+        ([16, 6, 3], OF_16),
+        ([0, 3, 1], OF_8),
+        ([0, 0, 2], OF_3),
     ];
     let figures = wanted.map(|(numbers, wanted)| {
         let [long_count, short_count, burst_type] = numbers;
         let name = format!(
             "seat of {long_count} and {short_count}, type {burst_type}, users 0 to 18 and largest"
         );
-        figure(&name, users_of_type(numbers), wanted)
+        let book = opened_with(long_count, short_count);
+        figure(&name, users_of_type(&book, 3, burst_type), wanted)
     });
     figures.into()
 }

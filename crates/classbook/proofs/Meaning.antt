@@ -66,7 +66,7 @@ unfolding planOf withPlan
 with-plan-plan s l h = ap (λ (m : List Booking). listing s m) (with-plan-bookings s l h)
 
 module _ (b : Book) (sized : Sized b) (seat : ℕ) where
-  -- opening stores the settings, and no bookings; a count of 0 stores 16 and 6
+  -- opening stores the settings, and no bookings; a count of 0 stores 8 and 3
   pub opened-seat : (cell case k long short : ℕ) → openAnswer b seat cell case k long short .refusal ≡ 0
       → seatOf (openAnswer b seat cell case k long short .book) seat ≡ openSeat cell case k long short
   unfolding openAnswer
@@ -121,6 +121,6 @@ module _ (b : Book) (sized : Sized b) (seat : ℕ) where
       ap (λ (c : Book). common c + beyond (seatOf b seat)) made ∙ omega (arith, room-after b seat closed (sized .seats) low)
 
 -- a count of 0 in opening
-pub default-counts : (longCount 0 ≡ 16) × (shortCount 0 ≡ 6)
+pub default-counts : (longCount 0 ≡ 8) × (shortCount 0 ≡ 3)
 unfolding longCount shortCount
 default-counts = (refl, refl)

@@ -26,13 +26,13 @@ withBook n before made = record { refusal = n; book = after n before made }
 
 -- ---- open (1, 3, 9, 12, 13, 15)
 
--- "In opening a seat, a count of 0 stands for 16 (long)"
+-- document 02: "A count of 0 in opening now means 8"
 unfoldable pub longCount : ℕ → ℕ
-longCount long = cond (eqb long 0) 16 long
+longCount long = cond (eqb long 0) 8 long
 
--- "or 6 (short)"
+-- "and 3"
 unfoldable pub shortCount : ℕ → ℕ
-shortCount short = cond (eqb short 0) 6 short
+shortCount short = cond (eqb short 0) 3 short
 
 -- the settings as they will be stored, then the book and the seat
 unfoldable pub openRefusals : Book → ℕ → ℕ → ℕ → ℕ → ℕ → ℕ → Refusals

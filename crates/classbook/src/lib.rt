@@ -79,18 +79,18 @@ fn exchanged(n: u32, b: Book, seat: u32, s: Seat) -> BookAnswer
     }
 }
 
-// "a count of 0 stands for 16 (long)"
+// "A count of 0 in opening now means 8": the long count as it is stored.
 fn long_count(long: u32) -> u32
     ensures { λ r. ⌜ r ≡ longCount long ⌝ }
 {
-    if long == 0 { 16 } else { long }
+    if long == 0 { 8 } else { long }
 }
 
-// "or 6 (short)"
+// "and 3": the short count.
 fn short_count(short: u32) -> u32
     ensures { λ r. ⌜ r ≡ shortCount short ⌝ }
 {
-    if short == 0 { 6 } else { short }
+    if short == 0 { 3 } else { short }
 }
 
 // Opens a seat with a cell parameter, a synchronisation case and its k, and a long and a short count. Refusals: 1, 3, 9, 12, 13, 15.

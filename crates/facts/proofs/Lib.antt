@@ -16,3 +16,6 @@ pub mod Codes
 pub mod Clashes
 pub mod OldCounts
 pub mod OldSentence
+pub mod Default
+pub mod KeptCounts
+pub mod OldDefault

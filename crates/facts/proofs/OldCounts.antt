@@ -36,7 +36,7 @@ oldStandsIn s x =
 -- ---- what passed
 
 -- a booking whose own numbers pass has a user from 1 on
-user-low : (x : Booking) → formOf x ≡ 0 → 1 ≤ x .user
+pub user-low : (x : Booking) → formOf x ≡ 0 → 1 ≤ x .user
 unfolding formOf formRefusals badBookedUser
 user-low x e =
     let two = first-none 1 (badType (x .burst)) _ e in

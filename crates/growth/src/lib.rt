@@ -33,13 +33,18 @@ fn request_of(j: u32, user: u32) -> Request {
     }
 }
 
-// 0, 4, 8 or 16.
+// 16, 8, 4 or 0.
 fn long_count(j: u32) -> u32 {
-    let t = j / 4 % 4;
+    let t = 3 - j / 4 % 4;
     t * 4 + t / 3 * 4
 }
 
-// Sixteen seats, opened with so many kinds of settings; of the short counts 0, 3, 6 and 9 the last is refused.
+// 6, 3, 0 or 7, which is refused.
+fn short_count(j: u32) -> u32 {
+    (j % 4 * 7 + 6) % 10
+}
+
+// Sixteen seats, opened with so many kinds of settings, of which the first has 16 and 6.
 fn opened_book(kinds: u32) -> Book
     requires { ⌜ 1 ≤ kinds ⌝ }
 {
@@ -48,7 +53,8 @@ fn opened_book(kinds: u32) -> Book
     while i < 16 {
         let j = i % kinds;
         let long = long_count(j);
-        let a = classbook::open_seat(b, i, i, 1 + j % 2, j % 8, long, j % 4 * 3);
+        let short = short_count(j);
+        let a = classbook::open_seat(b, i, i, 1 + j % 2, j % 8, long, short);
         b = a.book;
         i += 1;
     }

@@ -7,7 +7,7 @@ ghost use Rattle.mqarbset.specs.Version.{version, bookSize};
 pub extern "C" fn mq_version() -> u32
     ensures { λ r. ⌜ r ≡ version ⌝ }
 {
-    700
+    800
 }
 
 // The bytes of a class book.

@@ -23,11 +23,11 @@ rem-j c = search needs
 long-count-requires : tie.Need-long-count-requires Inv-loop μ-loop
 long-count-requires c κs = search needs
 
+short-count-requires : tie.Need-short-count-requires Inv-loop μ-loop
+short-count-requires c κs = search needs
+
 add-open-seat : tie.Need-add-open-seat Inv-loop μ-loop
 add-open-seat c = search needs
-
-mul-open-seat : tie.Need-mul-open-seat Inv-loop μ-loop
-mul-open-seat c = search needs
 
 open-seat-requires : tie.Need-open-seat-requires Inv-loop μ-loop
 open-seat-requires c κs = search needs
@@ -54,8 +54,8 @@ opened-book-spec =
     loop-holds
     rem-j
     long-count-requires
+    short-count-requires
     add-open-seat
-    mul-open-seat
     open-seat-requires
     add-i
     loop-less

@@ -1,0 +1,97 @@
+-- Document 02, C-17: "Seats opened before keep 16 and 6." A lesson of before gets the answers that it
+-- got, once its openings give 16 and 6 outright; the books that it left meet their conditions; and a
+-- seat that it opened has 16 and 6 until it is closed. No function's proof cites it: it is for the
+-- reader. Assumes nothing.
+use mathlib.Core.Path.{_≡_, refl, sym, ap, _∙_}
+use mathlib.Core.Bool.{true, false, not}
+use mathlib.Core.List.{List, [], _∷_}
+use mathlib.Core.Logic.{⊎-elim}
+use Prim.Native.Nat.{ℕ}
+use lib.Dec.{eqb}
+use borrow.Author.Tests.{ne-eqb}
+use Rattle.laws.specs.Lists.{every}
+use Rattle.laws.proofs.Cases.{by-cases}
+use Rattle.seats.specs.declared.Seat.{Seat}
+use Rattle.classbook.specs.declared.Book.{Book}
+use Rattle.classbook.specs.declared.BookAnswer.{BookAnswer}
+use Rattle.classbook.specs.Book.{emptyBook, seatOf}
+use Rattle.classbook.specs.Calls.{longCount, shortCount, openRefusals, openSeat, openAnswer}
+use Rattle.classbook.proofs.Meaning.{opened-seat}
+use Rattle.classbook.proofs.Valid.{Sized}
+use Rattle.demand.specs.Lesson.{Call, opens, books, cancels, closes, lists, glances}
+use Rattle.demand.specs.Lesson.{Turn, number, reply, next, runThrough}
+use Rattle.demand.proofs.Books.{Good, empty-good, run-good}
+use Rattle.facts.specs.KeptCounts.{closesIt}
+use Rattle.facts.specs.OldDefault.{oldLong, oldShort, oldOpenAnswer, oldReply, oldNext, oldReplies, oldRun}
+use Rattle.facts.specs.OldDefault.{outright, allOutright, replies}
+use Rattle.facts.proofs.KeptCounts.{counts-kept}
+
+-- ---- "must now give 16 and 6 outright .. and show that each still gets the answers it got"
+
+-- a count that is written outright is stored as it is
+long-kept : (long : ℕ) → longCount (oldLong long) ≡ oldLong long
+unfolding longCount oldLong
+long-kept long = ⊎-elim (λ (t : eqb long 0 ≡ true). rw t refl) (λ (f : eqb long 0 ≡ false). rw (f, f) refl) (by-cases (eqb long 0))
+
+short-kept : (short : ℕ) → shortCount (oldShort short) ≡ oldShort short
+unfolding shortCount oldShort
+short-kept short = ⊎-elim (λ (t : eqb short 0 ≡ true). rw t refl) (λ (f : eqb short 0 ≡ false). rw (f, f) refl) (by-cases (eqb short 0))
+
+-- opening a seat with 16 and 6 outright is what opening it with 0 was, on any book
+pub opened-outright : (b : Book) (seat cell case k long short : ℕ)
+    → openAnswer b seat cell case k (oldLong long) (oldShort short) ≡ oldOpenAnswer b seat cell case k long short
+unfolding openAnswer openRefusals openSeat oldOpenAnswer
+opened-outright b seat cell case k long short = rw (long-kept long, short-kept short) refl
+
+-- so each call is answered as it was, and leaves the book that it left
+pub call-outright : (b : Book) (seat : ℕ) (c : Call)
+    → (reply b seat (outright c) ≡ oldReply b seat c) × (next b seat (outright c) ≡ oldNext b seat c)
+unfolding reply next outright oldReply oldNext
+call-outright b seat (opens cell case k long short) =
+    let e = opened-outright b seat cell case k long short in
+    (ap (λ (a : BookAnswer). number (a .refusal)) e, ap (λ (a : BookAnswer). a .book) e)
+call-outright b seat (books x) = (refl, refl)
+call-outright b seat (cancels timeslot factor index) = (refl, refl)
+call-outright b seat closes = (refl, refl)
+call-outright b seat (lists lent) = (refl, refl)
+call-outright b seat (glances timeslot) = (refl, refl)
+
+-- and each lesson, on any book
+pub lesson-outright : (ts : List Turn) (b : Book)
+    → (replies b (allOutright ts) ≡ oldReplies b ts) × (runThrough b (allOutright ts) ≡ oldRun b ts)
+unfolding replies runThrough allOutright oldReplies oldRun
+lesson-outright [] b = (refl, refl)
+lesson-outright (t ∷ ts) b =
+    let e = call-outright b (t .seat) (t .call) in
+    let rest = lesson-outright ts (oldNext b (t .seat) (t .call)) in (
+      rw (e .0, e .1, rest .0) refl,
+      ap (λ (c : Book). runThrough c (allOutright ts)) (e .1) ∙ rest .1,
+    )
+
+-- ---- "Seats opened before keep 16 and 6"
+
+-- every book that a lesson of before left meets its conditions
+pub old-book-good : (ts : List Turn) → Good (oldRun emptyBook ts)
+old-book-good ts = rw (sym (lesson-outright ts emptyBook .1)) (run-good (allOutright ts) emptyBook empty-good)
+
+-- only a count of 0 stands for another number than before
+pub only-zero : (b : Book) (seat cell case k long short : ℕ) → (long ≡ 0 → ⊥) → (short ≡ 0 → ⊥)
+    → openAnswer b seat cell case k long short ≡ oldOpenAnswer b seat cell case k long short
+unfolding oldLong oldShort
+only-zero b seat cell case k long short l s =
+    rw (ne-eqb long 0 l, ne-eqb short 0 s) at (opened-outright b seat cell case k long short)
+
+-- and a seat that was opened with 0 and 0 has 16 and 6, whatever is then called, until it is closed
+pub old-seat-keeps : (b : Book) → Good b → (seat cell case k : ℕ)
+    → oldOpenAnswer b seat cell case k 0 0 .refusal ≡ 0
+    → (ts : List Turn) → every (λ t. not (closesIt seat t)) ts ≡ true
+    → (seatOf (runThrough (oldOpenAnswer b seat cell case k 0 0 .book) ts) seat .long ≡ 16)
+    × (seatOf (runThrough (oldOpenAnswer b seat cell case k 0 0 .book) ts) seat .short ≡ 6)
+unfolding openSeat longCount shortCount oldLong oldShort
+old-seat-keeps b g seat cell case k z ts open-still =
+    let e = opened-outright b seat cell case k 0 0 in
+    let sized : Sized b = record { seats = g .sixteen; rows = λ j low. g .wide j } in
+    let was = ap (λ (a : BookAnswer). seatOf (a .book) seat) (sym e)
+    ∙ opened-seat b sized seat cell case k 16 6 (ap (λ (a : BookAnswer). a .refusal) e ∙ z) in
+    let kept = counts-kept ts (oldOpenAnswer b seat cell case k 0 0 .book) seat (ap (λ (s : Seat). s .live) was) open-still in
+    (kept .long ∙ ap (λ (s : Seat). s .long) was, kept .short ∙ ap (λ (s : Seat). s .short) was)

@@ -8,8 +8,8 @@ use mathlib.Core.List.{List, [], _∷_}
 use mathlib.Core.Logic.{⊎-elim}
 use Prim.Native.Nat.{ℕ}
 use lib.Dec.{eqb}
-use borrow.Author.Tests.{ne-eqb}
 use Rattle.laws.specs.Lists.{every}
+use Rattle.laws.proofs.Bools.{or-false}
 use Rattle.laws.proofs.Cases.{by-cases}
 use Rattle.seats.specs.declared.Seat.{Seat}
 use Rattle.classbook.specs.declared.Book.{Book}
@@ -23,7 +23,7 @@ use Rattle.demand.specs.Lesson.{Turn, number, reply, next, runThrough}
 use Rattle.demand.proofs.Books.{Good, empty-good, run-good}
 use Rattle.facts.specs.KeptCounts.{closesIt}
 use Rattle.facts.specs.OldDefault.{oldLong, oldShort, oldOpenAnswer, oldReply, oldNext, oldReplies, oldRun}
-use Rattle.facts.specs.OldDefault.{outright, allOutright, replies}
+use Rattle.facts.specs.OldDefault.{outright, allOutright, leavesCount, replies}
 use Rattle.facts.proofs.KeptCounts.{counts-kept}
 
 -- ---- "must now give 16 and 6 outright .. and show that each still gets the answers it got"
@@ -74,12 +74,18 @@ lesson-outright (t ∷ ts) b =
 pub old-book-good : (ts : List Turn) → Good (oldRun emptyBook ts)
 old-book-good ts = rw (sym (lesson-outright ts emptyBook .1)) (run-good (allOutright ts) emptyBook empty-good)
 
--- only a count of 0 stands for another number than before
-pub only-zero : (b : Book) (seat cell case k long short : ℕ) → (long ≡ 0 → ⊥) → (short ≡ 0 → ⊥)
-    → openAnswer b seat cell case k long short ≡ oldOpenAnswer b seat cell case k long short
-unfolding oldLong oldShort
-only-zero b seat cell case k long short l s =
-    rw (ne-eqb long 0 l, ne-eqb short 0 s) at (opened-outright b seat cell case k long short)
+-- and every book answers as before, wherever no count is left to the default
+pub answers-as-before : (b : Book) (seat : ℕ) (c : Call) → leavesCount c ≡ false
+    → (reply b seat c ≡ oldReply b seat c) × (next b seat c ≡ oldNext b seat c)
+unfolding leavesCount outright oldLong oldShort
+answers-as-before b seat (opens cell case k long short) given =
+    let e = or-false (eqb long 0) (eqb short 0) given in
+    rw (e .0, e .1) at (call-outright b seat (opens cell case k long short))
+answers-as-before b seat (books x) given = call-outright b seat (books x)
+answers-as-before b seat (cancels timeslot factor index) given = call-outright b seat (cancels timeslot factor index)
+answers-as-before b seat closes given = call-outright b seat closes
+answers-as-before b seat (lists lent) given = call-outright b seat (lists lent)
+answers-as-before b seat (glances timeslot) given = call-outright b seat (glances timeslot)
 
 -- and a seat that was opened with 0 and 0 has 16 and 6, whatever is then called, until it is closed
 pub old-seat-keeps : (b : Book) → Good b → (seat cell case k : ℕ)

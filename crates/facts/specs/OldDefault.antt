@@ -1,7 +1,7 @@
 -- Document 01: "In opening a seat, a count of 0 stands for 16 (long) or 6 (short)", which document
 -- 02, C-17, has changed to 8 and 3. What a lesson answered while it held; no other definition has
 -- that sentence. Cited by proofs/OldDefault.antt. Assumes nothing.
-use mathlib.Core.Bool.{cond}
+use mathlib.Core.Bool.{Bool, false, cond, _||_}
 use mathlib.Core.List.{List, [], _∷_, _++_, map}
 use Prim.Native.Nat.{ℕ}
 use lib.Dec.{eqb}
@@ -71,6 +71,15 @@ outright (glances timeslot) = glances timeslot
 
 unfoldable pub allOutright : List Turn → List Turn
 allOutright ts = map (λ (t : Turn). record { seat = t .seat; call = outright (t .call) }) ts
+
+-- whether a call leaves a count to the default
+unfoldable pub leavesCount : Call → Bool
+leavesCount (opens cell case k long short) = eqb long 0 || eqb short 0
+leavesCount (books x) = false
+leavesCount (cancels timeslot factor index) = false
+leavesCount closes = false
+leavesCount (lists lent) = false
+leavesCount (glances timeslot) = false
 
 -- the replies of a lesson today
 unfoldable pub replies : Book → List Turn → List Reply

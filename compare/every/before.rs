@@ -3,8 +3,9 @@
 //! it was.
 
 use super::book::put;
-use crate::beside::{expect_memory, Beside};
-use library::empty_book;
+use crate::beside::Beside;
+use crate::fail;
+use library::{empty_book, BOOK_BYTES};
 use second::book::Book;
 use second::calls;
 
@@ -52,7 +53,10 @@ pub fn run(both: &mut Beside) {
             None => call(both, &outright(line)),
         }
     }
-    expect_memory(("the book of version 0.7.0", &[]), &both.book.0, &kept.0);
+    if let Some(at) = (0..BOOK_BYTES).find(|&at| both.book.0[at] != kept.0[at]) {
+        let (now, then) = (both.book.0[at], kept.0[at]);
+        fail(&format!("the book of version 0.7.0 made anew: byte {at} is {now}, and was {then}"));
+    }
     // What its seats hold, and what they are asked for next: users of 16 and 6, where they have these counts.
     for seat in 0..16 {
         for line in [

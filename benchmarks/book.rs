@@ -87,7 +87,7 @@ fn call(tally: &mut Tally, dice: &mut Dice, b: MqBook) -> MqBook {
     match dice.below(200) {
         0..=9 => {
             let [cell, sync, k] = [dice.below(130), dice.one_of(&[1, 1, 2, 2, 3]), dice.below(8)];
-            let [long, short] = [dice.one_of(&[0, 4, 8, 16, 7]), dice.one_of(&[0, 3, 6, 6, 5])];
+            let [long, short] = [dice.one_of(&[0, 4, 8, 16, 16, 7]), dice.one_of(&[0, 3, 6, 6, 5])];
             let what = format!("open {seat} {cell} {sync} {k} {long} {short}");
             tally.both(
                 &what,

@@ -189,14 +189,13 @@ def defaults():
     holds('counts not given are 8 and 3', opened() == opened(0, 0) == opened(8, 3))
     holds('each by itself', opened(long=16) == opened(16, 0) == opened(16, 3) and opened(short=6) == opened(0, 6) == opened(8, 6))
     holds('other counts are others', all(a != b for a, b in itertools.combinations((opened(), opened(16), opened(0, 6), opened(16, 6), opened(4)), 2)))
-    for book, users, short in ((opened(), 8, 3), (opened(16, 6), 16, 6)):
-        for burst, last, full in ((1, users, 16), (3, users, 16), (2, short, 6)):
-            for user in range(1, full + 1):
-                if user <= last:
-                    book.book(0, 1, UP, burst, 16, 1, user)
-                    book.cancel(0, 1, 16, 1)
-                else:
-                    holds(f'user {user} above {last} is refused with 16', raised(Refused, book.book, 0, 1, UP, burst, 16, 1, user).number == 16)
+    book = opened()
+    for burst, last, full in ((1, 8, 16), (3, 8, 16), (2, 3, 6)):
+        for user in range(1, last + 1):
+            book.book(0, 1, UP, burst, 16, 1, user)
+            book.cancel(0, 1, 16, 1)
+        for user in range(last + 1, full + 1):
+            holds(f'user {user} above {last} is refused with 16', raised(Refused, book.book, 0, 1, UP, burst, 16, 1, user).number == 16)
 
 
 def summaries():

@@ -40,7 +40,7 @@ static void owner(void) { kept = mq_owner(2, 2, 275).q; }
 static void page(void) { kept = mq_page(2, 2, settings, sizeof settings, bytes, sizeof bytes).value; }
 static void read_page(void) { kept = mq_read_page(2, 2, settings, sizeof settings, bytes, sizeof bytes).value; }
 static void empty_book(void) { book = mq_empty_book(); }
-static void opened(void) { kept = mq_open(&book, 3, 0, 1, 0, 0, 0); }
+static void opened(void) { kept = mq_open(&book, 3, 0, 1, 0, 16, 6); }
 static void booked(void)
 {
     for (uint32_t i = 1; i <= 16; i++)

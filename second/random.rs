@@ -267,7 +267,7 @@ impl Writer<'_> {
         format!("open {seat} {cell} {case} {k} {long_count} {short_count}")
     }
 
-    /// The long and the short count of an opening: often both 0; else each by itself, mostly 16 and 6, so that many
+    /// The long and the short count of an opening: one time in six both 0; else each by itself, mostly 16 and 6, so that many
     /// seats permit users above 8, and above 3 of type 2.
     fn counts(&mut self) -> [u32; 2] {
         if self.dice.one_in(6) {

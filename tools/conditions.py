@@ -7,6 +7,7 @@ from pathlib import Path
 ROOT = Path(__file__).resolve().parent.parent
 HOME = ROOT / 'crates' / 'refusal_words' / 'specs' / 'Words.antt'
 PAGE = ROOT / 'docs' / 'REFUSALS.md'
+IN_WORDS = {12, 19, 20}  # whose examples there are told in words: 12 is tried over C, 19 and 20 by lessons/class.lesson
 ROW = re.compile(r'^\| (\d+) \| (.+?) \| .+? \| (.+?) \| (.+?) \|$', re.M)
 
 

@@ -1,6 +1,5 @@
 //! A book of version 0.7.0, in which a count of 0 in opening stood for 16 and 6 (data/opened-before.txt). The same calls
-//! with 16 and 6 outright give its very bytes; so a seat that was opened then keeps its counts, and is answered for as
-//! it was.
+//! with 16 and 6 outright give its very bytes: a seat that was opened then keeps its counts, and answers as it did.
 
 use super::book::put;
 use crate::beside::Beside;
@@ -10,7 +9,7 @@ use second::book::Book;
 use second::calls;
 
 const KEPT: &str = include_str!("../../data/opened-before.txt");
-const SEAT_BYTES: usize = 402;
+const SEAT_BYTES: usize = BOOK_BYTES / 16;
 
 /// An opening line with 16 and 6 in the place of 0; any other line as it is.
 fn outright(line: &str) -> String {

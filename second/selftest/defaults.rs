@@ -11,13 +11,10 @@ use crate::timeslots::Direction::{Down, Up};
 pub fn figures(rows: &Rows) -> Vec<Figure> {
     let mut figures = Vec::new();
     figures.extend(count_figures());
-    figures.extend(plan_figures());
     figures.extend(same_figures());
     figures.extend(order_figures());
     figures.extend(beside_figures());
     figures.extend(opened_again_figures(rows));
-    figures.extend(short_code_figures(rows));
-    figures.extend(beside_lesson_figures(rows));
     figures
 }
 
@@ -42,11 +39,7 @@ fn count_figures() -> Vec<Figure> {
         (4, 0, "4 and 3", OF_4, OF_3),
         (8, 0, "8 and 3", OF_8, OF_3),
         (16, 0, "16 and 3", OF_16, OF_3),
-        (4, 3, "4 and 3", OF_4, OF_3),
-        (4, 6, "4 and 6", OF_4, OF_6),
         (8, 3, "8 and 3", OF_8, OF_3),
-        (8, 6, "8 and 6", OF_8, OF_6),
-        (16, 3, "16 and 3", OF_16, OF_3),
         (16, 6, "16 and 6", OF_16, OF_6),
     ] {
         let book = opened_with(long_count, short_count);
@@ -73,26 +66,6 @@ fn plan([long_count, short_count]: [u32; 2]) -> (String, Vec<String>) {
     }
     let listed = book.list(3).unwrap_or_default();
     (kept(&book, 3), listed.iter().map(Record::words).collect())
-}
-
-/// How many of the 38 bookings a seat holds: under 16 and 6 all of them, 16 + 6 + 16; under 8 and 3 it is 8 + 3 + 8.
-fn plan_figures() -> Vec<Figure> {
-    let holds = [
-        ([0, 0], 19),
-        ([0, 3], 19),
-        ([0, 6], 22),
-        ([4, 0], 11),
-        ([8, 0], 19),
-        ([16, 0], 35),
-        ([8, 3], 19),
-        ([16, 6], 38),
-    ];
-    let figures = holds.map(|(counts, wanted)| {
-        let (_, listed) = plan(counts);
-        let name = format!("opened with {}, bookings held of 38", both(counts));
-        figure(&name, listed.len(), wanted)
-    });
-    figures.into()
 }
 
 /// A seat opened with a 0 is as one opened with 8, or 3, in its place.
@@ -266,69 +239,6 @@ fn opened_again_figures(rows: &Rows) -> Vec<Figure> {
             ("book 3 2 up 1 16 9 9 0 0", REFUSED_16),
             ("book 3 2 up 1 16 9 8 0 0", "ok"),
             ("list 3", "list 1 / 2 up 1 16 9 8 0 0"),
-        ],
-    )
-}
-
-/// docs/LESSONS.md: "SHORT 0 for 3".
-fn short_code_figures(rows: &Rows) -> Vec<Figure> {
-    lesson(
-        rows,
-        "short codes",
-        &[
-            ("open 3 0 1 0 0 0", "ok"),
-            ("book 3 2 up 2 16 3 3 0 0", "ok"),
-            ("book 3 2 up 2 16 4 4 0 0", REFUSED_16),
-            ("book 3 2 up 2 16 6 6 0 0", REFUSED_16),
-            ("book 3 2 up 2 16 7 7 0 0", REFUSED_4),
-            ("book 3 4 down 2 16 4 4 0 0", REFUSED_16),
-            ("book 3 4 down 2 16 4 3 0 0", "ok"),
-            ("list 3", "list 2 / 2 up 2 16 3 3 0 0 / 4 down 2 16 4 3 0 0"),
-            ("close 3", "ok"),
-            ("open 3 0 1 0 16 6", "ok"),
-            ("book 3 2 up 2 16 4 4 0 0", "ok"),
-            ("book 3 2 up 2 16 6 6 0 0", "ok"),
-            ("book 3 2 up 2 16 7 7 0 0", REFUSED_4),
-            ("book 3 4 down 2 16 4 4 0 0", "ok"),
-            ("list 3", "list 3 / 2 up 2 16 4 4 0 0 / 2 up 2 16 6 6 0 0 / 4 down 2 16 4 4 0 0"),
-        ],
-    )
-}
-
-/// Seats beside each other, one count of 0 with one given outright among them.
-fn beside_lesson_figures(rows: &Rows) -> Vec<Figure> {
-    lesson(
-        rows,
-        "beside each other",
-        &[
-            ("open 3 0 1 0 16 6", "ok"),
-            ("open 4 0 1 0 0 0", "ok"),
-            ("open 5 0 1 0 0 6", "ok"),
-            ("open 6 0 1 0 16 0", "ok"),
-            ("open 7 0 1 0 8 3", "ok"),
-            ("book 3 2 up 1 16 9 9 0 0", "ok"),
-            ("book 4 2 up 1 16 9 9 0 0", REFUSED_16),
-            ("book 5 2 up 1 16 9 9 0 0", REFUSED_16),
-            ("book 6 2 up 1 16 9 9 0 0", "ok"),
-            ("book 7 2 up 1 16 9 9 0 0", REFUSED_16),
-            ("book 3 4 up 2 16 4 4 0 0", "ok"),
-            ("book 4 4 up 2 16 4 4 0 0", REFUSED_16),
-            ("book 5 4 up 2 16 4 4 0 0", "ok"),
-            ("book 6 4 up 2 16 4 4 0 0", REFUSED_16),
-            ("book 7 4 up 2 16 4 4 0 0", REFUSED_16),
-            ("close 4", "ok"),
-            ("open 4 0 1 0 16 6", "ok"),
-            ("close 3", "ok"),
-            ("open 3 0 1 0 0 0", "ok"),
-            ("book 3 2 up 1 16 9 9 0 0", REFUSED_16),
-            ("book 4 2 up 1 16 9 9 0 0", "ok"),
-            ("book 3 4 up 2 16 4 4 0 0", REFUSED_16),
-            ("book 4 4 up 2 16 4 4 0 0", "ok"),
-            ("list 3", "list 0"),
-            ("list 4", "list 2 / 2 up 1 16 9 9 0 0 / 4 up 2 16 4 4 0 0"),
-            ("list 5", "list 1 / 4 up 2 16 4 4 0 0"),
-            ("list 6", "list 1 / 2 up 1 16 9 9 0 0"),
-            ("list 7", "list 0"),
         ],
     )
 }

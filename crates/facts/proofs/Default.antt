@@ -55,8 +55,8 @@ above-not n m =
     (by-cases (leb n m))
 
 -- a seat whose counts are such bars those above the one that the burst type goes by
-module _ (short long : ℕ) (few : badCount 2 short ≡ false) (many : badCount 1 long ≡ false)
-    (short-4 : short ≡ 4 → ⊥) (long-4 : long ≡ 4 → ⊥) where
+module _ (long short : ℕ) (many : badCount 1 long ≡ false) (few : badCount 2 short ≡ false)
+    (long-4 : long ≡ 4 → ⊥) (short-4 : short ≡ 4 → ⊥) where
   counted : (x : Booking) → formOf x ≡ 0
       → notPermitted long short x ≡ ltb (countFor long short (x .burst)) (x .user)
   unfolding notPermitted badUser countFor badCount
@@ -78,7 +78,7 @@ module _ (short long : ℕ) (few : badCount 2 short ≡ false) (many : badCount 
 pub default-users : (x : Booking) → formOf x ≡ 0
     → notPermitted (longCount 0) (shortCount 0) x ≡ ltb (lastUser (x .burst)) (x .user)
 unfolding longCount shortCount lastUser countFor badCount
-default-users x form = counted 3 8 refl refl (λ e. omega arith) (λ e. omega arith) x form
+default-users x form = counted 8 3 refl refl (λ e. omega arith) (λ e. omega arith) x form
 
 -- and one with 16 and 6 none
 pub all-users : (x : Booking) → formOf x ≡ 0 → notPermitted 16 6 x ≡ false
@@ -86,7 +86,7 @@ unfolding countFor badCount formOf formRefusals badBookedUser
 all-users x form =
     let two = first-none 1 (badType (x .burst)) _ form in
     let four = first-none 3 (badBookedUser (x .burst) (x .user)) _ (two .1) in
-    counted 6 16 refl refl (λ e. omega arith) (λ e. omega arith) x form
+    counted 16 6 refl refl (λ e. omega arith) (λ e. omega arith) x form
     ∙ or-false (ltb (x .user) 1) _ (four .0) .1
 
 -- 16 is given by no later row

@@ -1,7 +1,7 @@
 -- Document 02, C-17: "Seats opened before keep 16 and 6." A lesson of before gets the answers that it
--- got, once its openings give 16 and 6 outright; the books that it left meet their conditions; and a
--- seat that it opened has 16 and 6 until it is closed. No function's proof cites it: it is for the
--- reader. Assumes nothing.
+-- got, once its openings give 16 and 6 outright; the books that it left meet their conditions; an
+-- opening differs only where a count is 0; and a seat that was opened then keeps 16 and 6 until it is
+-- closed. No function's proof cites it: it is for the reader. Assumes nothing.
 use mathlib.Core.Path.{_≡_, refl, sym, ap, _∙_}
 use mathlib.Core.Bool.{true, false, not}
 use mathlib.Core.List.{List, [], _∷_}
@@ -19,7 +19,7 @@ use Rattle.classbook.specs.Calls.{longCount, shortCount, openRefusals, openSeat
 use Rattle.classbook.proofs.Meaning.{opened-seat}
 use Rattle.classbook.proofs.Valid.{Sized}
 use Rattle.demand.specs.Lesson.{Call, opens, books, cancels, closes, lists, glances}
-use Rattle.demand.specs.Lesson.{Turn, number, reply, next, runThrough}
+use Rattle.demand.specs.Lesson.{Turn, number, reply, next, runThrough, log}
 use Rattle.demand.proofs.Books.{Good, empty-good, run-good}
 use Rattle.facts.specs.KeptCounts.{closesIt}
 use Rattle.facts.specs.OldDefault.{oldLong, oldShort, oldOpenAnswer, oldReply, oldNext, oldReplies, oldRun}
@@ -59,7 +59,7 @@ call-outright b seat (glances timeslot) = (refl, refl)
 -- and each lesson, on any book
 pub lesson-outright : (ts : List Turn) (b : Book)
     → (replies b (allOutright ts) ≡ oldReplies b ts) × (runThrough b (allOutright ts) ≡ oldRun b ts)
-unfolding replies runThrough allOutright oldReplies oldRun
+unfolding replies log runThrough allOutright oldReplies oldRun
 lesson-outright [] b = (refl, refl)
 lesson-outright (t ∷ ts) b =
     let e = call-outright b (t .seat) (t .call) in
@@ -74,7 +74,8 @@ lesson-outright (t ∷ ts) b =
 pub old-book-good : (ts : List Turn) → Good (oldRun emptyBook ts)
 old-book-good ts = rw (sym (lesson-outright ts emptyBook .1)) (run-good (allOutright ts) emptyBook empty-good)
 
--- and every book answers as before, wherever no count is left to the default
+-- and any book is answered for as before, wherever no count is left to the default: an opening differs
+-- only where a count is 0, and the other calls have none to read
 pub answers-as-before : (b : Book) (seat : ℕ) (c : Call) → leavesCount c ≡ false
     → (reply b seat c ≡ oldReply b seat c) × (next b seat c ≡ oldNext b seat c)
 unfolding leavesCount outright oldLong oldShort
@@ -87,17 +88,20 @@ answers-as-before b seat closes given = call-outright b seat closes
 answers-as-before b seat (lists lent) given = call-outright b seat (lists lent)
 answers-as-before b seat (glances timeslot) given = call-outright b seat (glances timeslot)
 
--- and a seat that was opened with 0 and 0 has 16 and 6, whatever is then called, until it is closed
-pub old-seat-keeps : (b : Book) → Good b → (seat cell case k : ℕ)
-    → oldOpenAnswer b seat cell case k 0 0 .refusal ≡ 0
+-- and a seat that was opened has the counts of then, 16 and 6 for 0, whatever is called until it is
+-- closed
+pub old-seat-keeps : (b : Book) → Good b → (seat cell case k long short : ℕ)
+    → oldOpenAnswer b seat cell case k long short .refusal ≡ 0
     → (ts : List Turn) → every (λ t. not (closesIt seat t)) ts ≡ true
-    → (seatOf (runThrough (oldOpenAnswer b seat cell case k 0 0 .book) ts) seat .long ≡ 16)
-    × (seatOf (runThrough (oldOpenAnswer b seat cell case k 0 0 .book) ts) seat .short ≡ 6)
-unfolding openSeat longCount shortCount oldLong oldShort
-old-seat-keeps b g seat cell case k z ts open-still =
-    let e = opened-outright b seat cell case k 0 0 in
+    → (seatOf (runThrough (oldOpenAnswer b seat cell case k long short .book) ts) seat .long ≡ oldLong long)
+    × (seatOf (runThrough (oldOpenAnswer b seat cell case k long short .book) ts) seat .short ≡ oldShort short)
+unfolding openSeat
+old-seat-keeps b g seat cell case k long short z ts open-still =
+    let e = opened-outright b seat cell case k long short in
     let sized : Sized b = record { seats = g .sixteen; rows = λ j low. g .wide j } in
     let was = ap (λ (a : BookAnswer). seatOf (a .book) seat) (sym e)
-    ∙ opened-seat b sized seat cell case k 16 6 (ap (λ (a : BookAnswer). a .refusal) e ∙ z) in
-    let kept = counts-kept ts (oldOpenAnswer b seat cell case k 0 0 .book) seat (ap (λ (s : Seat). s .live) was) open-still in
-    (kept .long ∙ ap (λ (s : Seat). s .long) was, kept .short ∙ ap (λ (s : Seat). s .short) was)
+    ∙ opened-seat b sized seat cell case k (oldLong long) (oldShort short) (ap (λ (a : BookAnswer). a .refusal) e ∙ z) in
+    let kept = counts-kept ts (oldOpenAnswer b seat cell case k long short .book) seat (ap (λ (s : Seat). s .live) was) open-still in (
+      kept .long ∙ ap (λ (s : Seat). s .long) was ∙ long-kept long,
+      kept .short ∙ ap (λ (s : Seat). s .short) was ∙ short-kept short,
+    )

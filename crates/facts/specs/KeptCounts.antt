@@ -1,5 +1,5 @@
--- What a seat keeps while it is open. Cited by proofs/KeptCounts.antt and proofs/OldDefault.antt.
--- Assumes nothing.
+-- Document 02, C-17, "Seats opened before keep 16 and 6": what a seat keeps while it is open. Cited by
+-- proofs/KeptCounts.antt and proofs/OldDefault.antt. Assumes nothing.
 use mathlib.Core.Path.{_≡_}
 use mathlib.Core.Bool.{Bool, true, false, _&&_}
 use Prim.Native.Nat.{ℕ}
@@ -7,7 +7,7 @@ use lib.Dec.{eqb}
 use Rattle.seats.specs.declared.Seat.{Seat}
 use Rattle.demand.specs.Lesson.{Call, opens, books, cancels, closes, lists, glances, Turn}
 
--- whether a turn closes this seat
+-- whether a call closes its seat
 unfoldable pub isClose : Call → Bool
 isClose (opens cell case k long short) = false
 isClose (books x) = false
@@ -16,6 +16,7 @@ isClose closes = true
 isClose (lists lent) = false
 isClose (glances timeslot) = false
 
+-- whether a turn closes this seat
 unfoldable pub closesIt : ℕ → Turn → Bool
 closesIt seat t = eqb (t .seat) seat && isClose (t .call)
 

@@ -14,7 +14,7 @@ use Rattle.classbook.specs.Book.{withSeat}
 use Rattle.classbook.specs.Conditions.{badBook, badSeat, isOpen}
 use Rattle.classbook.specs.Calls.{withBook}
 use Rattle.demand.specs.Lesson.{Call, opens, books, cancels, closes, lists, glances}
-use Rattle.demand.specs.Lesson.{Turn, Reply, number, reply, next}
+use Rattle.demand.specs.Lesson.{Turn, Reply, number, reply, next, Line, log}
 
 -- "16 (long)"
 unfoldable pub oldLong : ℕ → ℕ
@@ -32,7 +32,8 @@ oldOpenAnswer b seat cell case k long short =
     (settingsRefusals cell case k (oldLong long) (oldShort short) ++ (12, badBook b) ∷ (13, badSeat seat) ∷ (15, isOpen b seat) ∷ []))
     b (withSeat b seat (opened cell case k (oldLong long) (oldShort short)))
 
--- a call of then: what its learner got; no other call asked for the default
+-- a call of then: what its learner got. Only an opening reads a count of 0: the others are defined as
+-- they were, and no definition of theirs names longCount or shortCount
 unfoldable pub oldReply : Book → ℕ → Call → Reply
 oldReply b seat (opens cell case k long short) =
     number (oldOpenAnswer b seat cell case k long short .refusal)
@@ -51,16 +52,17 @@ oldNext b seat closes = next b seat closes
 oldNext b seat (lists lent) = next b seat (lists lent)
 oldNext b seat (glances timeslot) = next b seat (glances timeslot)
 
--- a lesson of then: the replies, and the book behind it
+-- the replies of a lesson of then
 unfoldable pub oldReplies : Book → List Turn → List Reply
 oldReplies b [] = []
 oldReplies b (t ∷ ts) = oldReply b (t .seat) (t .call) ∷ oldReplies (oldNext b (t .seat) (t .call)) ts
 
+-- the book behind it
 unfoldable pub oldRun : Book → List Turn → Book
 oldRun b [] = b
 oldRun b (t ∷ ts) = oldRun (oldNext b (t .seat) (t .call)) ts
 
--- "must now give 16 and 6 outright": the same lesson with its openings so written
+-- "must now give 16 and 6 outright": a call so written
 unfoldable pub outright : Call → Call
 outright (opens cell case k long short) = opens cell case k (oldLong long) (oldShort short)
 outright (books x) = books x
@@ -69,6 +71,7 @@ outright closes = closes
 outright (lists lent) = lists lent
 outright (glances timeslot) = glances timeslot
 
+-- and all calls of a lesson
 unfoldable pub allOutright : List Turn → List Turn
 allOutright ts = map (λ (t : Turn). record { seat = t .seat; call = outright (t .call) }) ts
 
@@ -83,5 +86,4 @@ leavesCount (glances timeslot) = false
 
 -- the replies of a lesson today
 unfoldable pub replies : Book → List Turn → List Reply
-replies b [] = []
-replies b (t ∷ ts) = reply b (t .seat) (t .call) ∷ replies (next b (t .seat) (t .call)) ts
+replies b ts = map (λ (l : Line). l .reply) (log b ts)

@@ -1,6 +1,6 @@
 -- Document 01 had no long count 4, and 16 met a user "above this seat's count". What passed then
--- passes by document 02. No other definition or proof has the old rules. Cited by OldSentence; it is
--- for the reader. Assumes nothing.
+-- passes by document 02. No other definition or proof has the old rules. Cited by OldSentence and
+-- Default; it is for the reader. Assumes nothing.
 use mathlib.Core.Path.{_≡_, ap, _∙_}
 use mathlib.Core.Bool.{Bool, true, false, cond, not, _&&_, _||_}
 use mathlib.Core.Logic.{_⊎_, inl, inr, ⊎-elim}

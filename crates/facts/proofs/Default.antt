@@ -28,6 +28,7 @@ use Rattle.classbook.specs.Conditions.{badBook, badSeat, notOpen, seatFull, roo
 use Rattle.classbook.specs.Calls.{longCount, shortCount, openRefusals, openSeat, openAnswer}
 use Rattle.classbook.specs.Calls.{asBooking, requestRefusals, bookingRefusals, bookRefusals, bookAnswer}
 use Rattle.classbook.proofs.Passed.{open-passed}
+use Rattle.classbook.proofs.Made.{form-kept}
 use Rattle.classbook.proofs.Meaning.{opened-seat}
 use Rattle.classbook.proofs.Valid.{Sized, open-kept}
 use Rattle.facts.specs.Default.{lastUser}
@@ -122,8 +123,7 @@ module _ (b : Book) (seat : ℕ) (x : Request) (ok : bookOk b ≡ true) (low : s
   let-by e z = later-rows _ _ _ _ (sym (own-table ∙ first-passes 16 _ _ e) ∙ z)
 
   formed : formOf (asBooking x) ≡ 0
-  unfolding requestRefusals asBooking formOf
-  formed = form
+  formed = form-kept x (asBooking x) form refl
 
   -- on a default seat 16 meets the users above 8, or above 3 on short codes, and no other
   module _ (long : seatOf b seat .long ≡ longCount 0) (short : seatOf b seat .short ≡ shortCount 0) where

@@ -3,7 +3,7 @@
 -- opening differs only where a count is 0; and a seat that was opened then keeps 16 and 6 until it is
 -- closed. No function's proof cites it: it is for the reader. Assumes nothing.
 use mathlib.Core.Path.{_≡_, refl, sym, ap, _∙_}
-use mathlib.Core.Bool.{true, false, not}
+use mathlib.Core.Bool.{true, false, cond, not}
 use mathlib.Core.List.{List, [], _∷_}
 use mathlib.Core.Logic.{⊎-elim}
 use Prim.Native.Nat.{ℕ}
@@ -28,14 +28,18 @@ use Rattle.facts.proofs.KeptCounts.{counts-kept}
 
 -- ---- "must now give 16 and 6 outright .. and show that each still gets the answers it got"
 
--- a count that is written outright is stored as it is
+-- where 0 stood for a count, what it stood for is stored as it is, whatever 0 stands for now
+stored : (now was n : ℕ) → eqb was 0 ≡ false → (let m = cond (eqb n 0) was n in cond (eqb m 0) now m ≡ m)
+stored now was n e =
+    ⊎-elim (λ (t : eqb n 0 ≡ true). rw (t, e) refl) (λ (f : eqb n 0 ≡ false). rw (f, f) refl) (by-cases (eqb n 0))
+
 long-kept : (long : ℕ) → longCount (oldLong long) ≡ oldLong long
 unfolding longCount oldLong
-long-kept long = ⊎-elim (λ (t : eqb long 0 ≡ true). rw t refl) (λ (f : eqb long 0 ≡ false). rw (f, f) refl) (by-cases (eqb long 0))
+long-kept long = stored 8 16 long refl
 
 short-kept : (short : ℕ) → shortCount (oldShort short) ≡ oldShort short
 unfolding shortCount oldShort
-short-kept short = ⊎-elim (λ (t : eqb short 0 ≡ true). rw t refl) (λ (f : eqb short 0 ≡ false). rw (f, f) refl) (by-cases (eqb short 0))
+short-kept short = stored 3 6 short refl
 
 -- opening a seat with 16 and 6 outright is what opening it with 0 was, on any book
 pub opened-outright : (b : Book) (seat cell case k long short : ℕ)

@@ -20,7 +20,7 @@ unfolding ofInt
 whole-exact f (pos n) h = round-whole f false n h
 whole-exact f (negsuc n) h = round-whole f true (suc n) h
 
-value-negated : (x : Float) (s : Bool) (a : ℕ) → HasValue x s a 1 → HasValue (neg x) (not s) a 1
+pub value-negated : (x : Float) (s : Bool) (a : ℕ) → HasValue x s a 1 → HasValue (neg x) (not s) a 1
 unfolding neg
 value-negated nan s a v = absurd v
 value-negated (inf p) s a v = absurd v

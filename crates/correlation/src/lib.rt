@@ -1,1 +1,131 @@
-// Correlation.
+// A user's two sums (document 02, C-18): each received sample times the conjugate of the user's chip, added in f32, where every step is exact.
+// A chip is a power of j with a sign. The samples are turned back by their powers of j once, for all users; then a user's sums are the turned samples added with the signs of the row,
+// as far on as the user is shifted, and turned back by that shift.
+// Public for the crate hearing, whose call has tested the cell and the samples before.
+ghost use mathlib.Core.Path.{_≡_};
+ghost use Prim.Native.Nat.{ℕ, _≤_, _<_, _+_, _*_, _%_};
+ghost use lib.ListN.{length, getD};
+ghost use lib.Ieee.{nan, binary32, ofInt};
+ghost use Rattle.correlation.specs.Inside.{turnedBack, sumsOf, Samples, Signs, dotOf, Turned, signTable, HoldsSigns};
+
+// The real and the imaginary sum of a user.
+pub struct Sums {
+    pub re: f32,
+    pub im: f32,
+}
+
+// The sum of the first `count` floats of z, each times the sign that stands `by` places further on in b: in sixteen columns, of which several are added at once, then the columns.
+fn dot(z: &[f32], b: &[f32], by: usize, count: usize) -> f32
+    requires { ⌜ (count ≤ 512) × (count % 16 ≡ 0) × (by ≤ 480) ⌝ }
+    requires { ⌜ (count ≤ length (now z)) × (by + count ≤ length (now b)) ⌝ }
+    requires { ⌜ Samples (now z) count × Signs (now b) (by + count) ⌝ }
+    ensures { λ r. ⌜ r ≡ ofInt binary32 (dotOf (now (z .entry)) (now (b .entry)) by count) ⌝ }
+{
+    let mut columns = [0.0f32; 16];
+    let mut m: usize = 0;
+    while m < count {
+        let mut l: usize = 0;
+        while l < 16 {
+            columns[l] = columns[l] + z[m + l] * b[by + m + l];
+            l += 1;
+        }
+        m += 16;
+    }
+    let mut sum = 0.0f32;
+    let mut k: usize = 0;
+    while k < 16 {
+        sum = sum + columns[k];
+        k += 1;
+    }
+    sum
+}
+
+// A user's two sums, from the turned samples and the signs of the row: turned back as far as the user is shifted.
+pub fn user_sums(re: &[f32], im: &[f32], signs: &[f32], by: usize, count: usize) -> Sums
+    requires { ⌜ (count ≤ 512) × (count % 16 ≡ 0) × (by ≤ 480) ⌝ }
+    requires { ⌜ (count ≤ length (now re)) × (count ≤ length (now im)) × (by + count ≤ length (now signs)) ⌝ }
+    requires { ⌜ Samples (now re) count × Samples (now im) count × Signs (now signs) (by + count) ⌝ }
+    ensures { λ r. ⌜ r ≡ sumsOf (turnedBack by (dotOf (now (re .entry)) (now (signs .entry)) by count, dotOf (now (im .entry)) (now (signs .entry)) by count)) ⌝ }
+{
+    let a = dot(re, signs, by, count);
+    let b = dot(im, signs, by, count);
+    let turns = by % 4;
+    match turns {
+        0 => Sums { re: a, im: b },
+        1 => Sums { re: b, im: 0.0 - a },
+        2 => Sums {
+            re: 0.0 - a,
+            im: 0.0 - b,
+        },
+        _ => Sums { re: 0.0 - b, im: a },
+    }
+}
+
+// The first `count` samples of a row, each turned back by j to the power of its place, from 1: the real parts into `re`, the imaginary parts into `im`.
+pub fn turn(row: &[f32], count: usize, re: &mut [f32], im: &mut [f32])
+    requires { ⌜ (count ≤ 512) × (count % 4 ≡ 0) × (count ≤ length (now re)) × (count ≤ length (now im)) ⌝ }
+    requires { ⌜ (2 * count ≤ length (now row)) × Samples (now row) (2 * count) ⌝ }
+    ensures { λ _. ⌜ Turned (now (row .entry)) count (now (re .exit)) (now (im .exit)) ⌝ }
+{
+    let mut i: usize = 0;
+    while i < count {
+        let k = 2 * i;
+        re[i] = row[k + 1];
+        im[i] = -row[k];
+        re[i + 1] = -row[k + 2];
+        im[i + 1] = -row[k + 3];
+        re[i + 2] = -row[k + 5];
+        im[i + 2] = row[k + 4];
+        re[i + 3] = row[k + 6];
+        im[i + 3] = row[k + 7];
+        i += 4;
+    }
+}
+
+// The sign of an element whose power of j stands where i leaves the remainder r by 4: at 4r + power. Only two powers can stand there; at the others is 0.
+const SIGNS: [f32; 16] = [
+    1.0, 0.0, -1.0, 0.0, // r = 0
+    0.0, 1.0, 0.0, -1.0, // r = 1
+    -1.0, 0.0, 1.0, 0.0, // r = 2
+    0.0, -1.0, 0.0, 1.0, // r = 3
+];
+
+// The signs of the first `count` elements, from their powers of j.
+fn signs_of(powers: &[u8], count: usize, out: &mut [f32])
+    requires { ⌜ (count ≤ length (now powers)) × (count ≤ length (now out)) × (count ≤ 512) ⌝ }
+    requires { ⌜ ((k : ℕ) → k < count → getD (now powers) k 0 < 4) ⌝ }
+    ensures { λ _. ⌜ ((m : ℕ) → m < count → getD (now (out .exit)) m nan ≡ getD signTable (4 * ((m + 1) % 4) + getD (now (powers .entry)) m 0) nan) ⌝ }
+{
+    let table = SIGNS;
+    let mut i: usize = 0;
+    while i < count {
+        let r = (i + 1) % 4;
+        let p = powers[i] as usize;
+        out[i] = table[4 * r + p];
+        i += 1;
+    }
+}
+
+// What stands in the first `period` places, again and again up to place `count`.
+fn repeat(period: usize, count: usize, out: &mut [f32])
+    requires { ⌜ (1 ≤ period) × (period ≤ count) × (count ≤ length (now out)) ⌝ }
+    ensures { λ _. ⌜ ((m : ℕ) → m < count → getD (now (out .exit)) m nan ≡ getD (now (out .entry)) (m % period) nan) ⌝ }
+{
+    let mut i = period;
+    while i < count {
+        out[i] = out[i - period];
+        i += 1;
+    }
+}
+
+// The signs of a cell's row, as many as `count`, the row repeated behind its period.
+pub fn fill_signs(cell: u32, burst: u32, count: usize, out: &mut [f32])
+    requires { ⌜ (cell < 128) × (512 ≤ count) × (count ≤ length (now out)) ⌝ }
+    ensures { λ _. ⌜ HoldsSigns cell burst count (now (out .exit)) ⌝ }
+{
+    let period = codes::code_of(burst).period as usize;
+    let mut powers = [0u8; 512];
+    elements::fill_elements(cell, burst, 0, period, &mut powers);
+    signs_of(&powers, period, out);
+    repeat(period, count, out);
+}

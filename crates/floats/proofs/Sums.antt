@@ -114,13 +114,19 @@ pub difference-exact : (f : Format) (x : Float) (a b : ℤ) → natAbs a ≤ 2 ^
 unfolding sub
 difference-exact f x a b h w = sum-exact f (neg x) a (negℤ b) h (minus-whole x b w)
 
+-- a whole number is its size with its sign
+sign-and-size : (z : ℤ) → z ≡ signed (isMinus z) (natAbs z)
+sign-and-size (pos n) = refl
+sign-and-size (negsuc n) = refl
+
+pub signed-size : (s : Bool) (n : ℕ) → natAbs (signed s n) ≡ n
+signed-size false n = refl
+signed-size true zero = refl
+signed-size true (suc n) = refl
+
 -- the float of a whole number is that number
 pub whole-is : (f : Format) (z : ℤ) → natAbs z ≤ 2 ^ prec f → IsWhole (ofInt f z) z
-whole-is f z h = record { minus = isMinus z; size = natAbs z; value = whole-exact f z h; is = back z }
-  where
-    back : (z : ℤ) → z ≡ signed (isMinus z) (natAbs z)
-    back (pos n) = refl
-    back (negsuc n) = refl
+whole-is f z h = record { minus = isMinus z; size = natAbs z; value = whole-exact f z h; is = sign-and-size z }
 
 -- ---- products
 signed-product : (s t : Bool) (a b : ℕ) → signed s a *ℤ signed t b ≡ signed (unlike s t) (a * b)
@@ -148,6 +154,14 @@ signed-product true true (suc a) zero = *ℤ-zero (negsuc a) ∙ sym (ap pos non
     none : suc a * 0 ≡ 0
     none = omega arith
 signed-product true true (suc a) (suc b) = refl
+
+-- a product is as large as its parts say
+pub size-product : (a b : ℤ) → natAbs (a *ℤ b) ≡ natAbs a * natAbs b
+size-product a b =
+    ap (λ (z : ℤ). natAbs (z *ℤ b)) (sign-and-size a)
+    ∙ ap (λ (z : ℤ). natAbs (signed (isMinus a) (natAbs a) *ℤ z)) (sign-and-size b)
+    ∙ ap natAbs (signed-product (isMinus a) (isMinus b) (natAbs a) (natAbs b))
+    ∙ signed-size (unlike (isMinus a) (isMinus b)) (natAbs a * natAbs b)
 
 mul-value : (f : Format) (x y : Float) (s t : Bool) (a b : ℕ) → HasValue x s a 1 → HasValue y t b 1 → mul f x y ≡ round f (unlike s t) (a * b) 1
 unfolding mul
@@ -181,12 +195,7 @@ product-whole f x y a b v w h =
       is = ap (λ (z : ℤ). z *ℤ b) (v .is) ∙ ap (λ (z : ℤ). signed (v .minus) (v .size) *ℤ z) (w .is) ∙ signed-product (v .minus) (w .minus) (v .size) (w .size)
     }
   where
-    size-of : (s : Bool) (n : ℕ) → natAbs (signed s n) ≡ n
-    size-of false n = refl
-    size-of true zero = refl
-    size-of true (suc n) = refl
-
     sizes : natAbs a * natAbs b ≡ v .size * w .size
     sizes =
-        ap (λ (n : ℕ). n * natAbs b) (ap natAbs (v .is) ∙ size-of (v .minus) (v .size))
-        ∙ ap (λ (n : ℕ). v .size * n) (ap natAbs (w .is) ∙ size-of (w .minus) (w .size))
+        ap (λ (n : ℕ). n * natAbs b) (ap natAbs (v .is) ∙ signed-size (v .minus) (v .size))
+        ∙ ap (λ (n : ℕ). v .size * n) (ap natAbs (w .is) ∙ signed-size (w .minus) (w .size))

@@ -11,17 +11,12 @@ use lib.Ieee.{Float, nan, inf, fin, binary32, up, down, ofInt}
 use lib.Ieee.Fits.{down-pos, and-l, and-r}
 use borrow.Author.Tests.{le-leb, eq-eqb}
 use Rattle.floats.specs.Whole.{signed, IsWhole}
-use Rattle.floats.proofs.Sums.{whole-is}
+use Rattle.floats.proofs.Sums.{signed-size, whole-is}
 use Rattle.samples.specs.Samples.{isSample, sampleOf}
 
-pub signed-is : (s : Bool) (n : ℕ) → cond s (negℤ (pos n)) (pos n) ≡ signed s n
+signed-is : (s : Bool) (n : ℕ) → cond s (negℤ (pos n)) (pos n) ≡ signed s n
 signed-is true n = refl
 signed-is false n = refl
-
-pub signed-size : (s : Bool) (n : ℕ) → natAbs (signed s n) ≡ n
-signed-size false n = refl
-signed-size true zero = refl
-signed-size true (suc n) = refl
 
 -- a sample is the whole number that it is read as
 pub sample-is : (x : Float) → T (isSample x) → IsWhole x (sampleOf x)

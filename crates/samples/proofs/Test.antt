@@ -14,10 +14,10 @@ use lib.Ieee.Exact.{HasValue}
 use lib.Ieee.Back.{whole-unique}
 use Rattle.floats.specs.Whole.{isMinus, signed, IsWhole}
 use Rattle.floats.proofs.Whole.{whole-exact}
-use Rattle.floats.proofs.Sums.{sum-exact, difference-exact}
+use Rattle.floats.proofs.Sums.{signed-size, sum-exact, difference-exact}
 use Rattle.floats.proofs.Large.{Natural, large-whole}
 use Rattle.samples.specs.Samples.{isSample, sampleOf}
-use Rattle.samples.proofs.Reading.{sample-is, sample-size, is-one, signed-size}
+use Rattle.samples.proofs.Reading.{sample-is, sample-size, is-one}
 
 -- ---- tests
 both-ways : (p q : Bool) → (T p → T q) → (T q → T p) → p ≡ q

@@ -1,0 +1,113 @@
+-- Sixteen columns of products, each added in f32: what a turn of the loops makes of them, and what they are together. Cited by the proof of dot.
+-- Assumes nothing.
+use mathlib.Core.Path.{_≡_, refl, sym, ap, _∙_, subst}
+use mathlib.Core.List.{List}
+use mathlib.Core.Logic.{inl, inr}
+use Prim.Native.Nat.{ℕ, zero, suc, _+_, _-_, _*_, _/_, _%_, _^_, _≤_, _<_}
+use native.Mathlib.Nat.{mul-le-mul, mul-le-mul-right, eq-or-lt-of-le}
+use native.Mathlib.Numerals.{add-one}
+use native.Mathlib.Omega.{arith}
+use lib.Dec.{T}
+use lib.ListN.{getD, length, set}
+use lib.Seq.{getD-set-same, getD-set-other}
+use lib.IntN.{ℤ, pos, natAbs, _+ℤ_, _*ℤ_}
+use lib.Ieee.{Float, nan, binary32, add, mul, ofInt, ofBits}
+use Rattle.sums.specs.Totals.{total}
+use Rattle.sums.proofs.Totals.{total-size, column, column-none, column-more, column-size, columns}
+use Rattle.floats.specs.Whole.{IsWhole}
+use Rattle.floats.proofs.Whole.{zero-plain}
+use Rattle.floats.proofs.Sums.{sum-exact, product-whole, size-product, whole-is}
+use Rattle.samples.specs.Samples.{isSample, sampleOf}
+use Rattle.samples.proofs.Reading.{sample-is, sample-size}
+use Rattle.correlation.specs.Inside.{Samples, Signs, term, dotOf}
+
+module _ (z b : List Float) (by count : ℕ) (samples : Samples z count) (signs : Signs b (by + count)) where
+  -- a product of a sample and a sign is a whole number, at most 2047 in size
+  small : (p : ℕ) → p < count → natAbs (sampleOf (getD z p nan)) * natAbs (sampleOf (getD b (by + p) nan)) ≤ 2047
+  small p h =
+      let t = mul-le-mul {n₂ = 2047} {m₂ = 1} (sample-size (getD z p nan) (samples .all p h)) (signs .all (by + p) (omega arith) .1) in
+      omega arith
+
+  product : (p : ℕ) → p < count → IsWhole (mul binary32 (getD z p nan) (getD b (by + p) nan)) (sampleOf (getD z p nan) *ℤ sampleOf (getD b (by + p) nan))
+  product p h =
+      product-whole binary32 (getD z p nan) (getD b (by + p) nan) (sampleOf (getD z p nan)) (sampleOf (getD b (by + p) nan))
+      (sample-is (getD z p nan) (samples .all p h)) (sample-is (getD b (by + p) nan) (signs .all (by + p) (omega arith) .0)) (omega (arith, small p h))
+
+  term-size : (i : ℕ) → 1 ≤ i → i ≤ count → natAbs (term z b by i) ≤ 2047
+  term-size i low high = omega (arith, small (i - 1) (omega arith), size-product (sampleOf (getD z (i - 1) nan)) (sampleOf (getD b (by + (i - 1)) nan)))
+
+  -- one product more in column l, at places m and l
+  pub column-turn : (m l t : ℕ) (x : Float) → m ≡ 16 * t → m + 16 ≤ count → count ≤ 512 → l < 16 → x ≡ ofInt binary32 (column 16 (term z b by) l t)
+      → add binary32 x (mul binary32 (getD z (m + l) nan) (getD b (by + m + l) nan)) ≡ ofInt binary32 (column 16 (term z b by) l (t + 1))
+  column-turn m l t x e room few h is =
+      let f = term z b by in
+      let p = m + l in
+      let far : by + m + l ≡ by + p = omega arith in
+      let here : 16 * t + (l + 1) - 1 ≡ p = omega arith in
+      let size : natAbs (column 16 f l t) ≤ t * 2047 = column-size 16 f 2047 l t (λ r high. term-size (16 * r + (l + 1)) (omega arith) (omega arith)) in
+      let fits : natAbs (column 16 f l t) ≤ 2 ^ 24 = omega arith in
+      ap (λ (y : Float). add binary32 y (mul binary32 (getD z p nan) (getD b (by + m + l) nan))) is
+      ∙ ap (λ (k : ℕ). add binary32 (ofInt binary32 (column 16 f l t)) (mul binary32 (getD z p nan) (getD b k nan))) far
+      ∙ sum-exact binary32 _ (column 16 f l t) _ fits (product p (omega arith))
+      ∙ ap (λ (k : ℕ). ofInt binary32 (column 16 f l t +ℤ (sampleOf (getD z k nan) *ℤ sampleOf (getD b (by + k) nan)))) (sym here)
+      ∙ ap (ofInt binary32) (sym (column-more 16 f l t))
+
+  -- one column more in their sum
+  pub together-turn : (k t : ℕ) (s x : Float) → 16 * t ≡ count → count ≤ 512 → k < 16
+      → s ≡ ofInt binary32 (total (λ (l : ℕ). column 16 (term z b by) (l - 1) t) k) → x ≡ ofInt binary32 (column 16 (term z b by) k t)
+      → add binary32 s x ≡ ofInt binary32 (total (λ (l : ℕ). column 16 (term z b by) (l - 1) t) (k + 1))
+  unfolding total
+  together-turn k t s x e few h is col =
+      let f = term z b by in
+      let g : ℕ → ℤ = λ l. column 16 f (l - 1) t in
+      let each : (l : ℕ) → l < 16 → natAbs (column 16 f l t) ≤ t * 2047 =
+      λ l low. column-size 16 f 2047 l t (λ r high. term-size (16 * r + (l + 1)) (omega arith) (omega arith)) in
+      let most : natAbs (total g k) ≤ k * (t * 2047) = total-size g (t * 2047) k (λ i low high. each (i - 1) (omega arith)) in
+      let all : k * (t * 2047) ≤ 16 * (t * 2047) = mul-le-mul-right (t * 2047) (omega arith) in
+      let fits : natAbs (total g k) ≤ 2 ^ 24 = omega arith in
+      let own : natAbs (column 16 f k t) ≤ 2 ^ 24 = omega (arith, each k h) in
+      let back : suc k - 1 ≡ k = omega arith in
+      ap (λ (y : Float). add binary32 y x) is
+      ∙ ap (λ (y : Float). add binary32 (ofInt binary32 (total g k)) y) col
+      ∙ sum-exact binary32 _ (total g k) (column 16 f k t) fits (whole-is binary32 (column 16 f k t) own)
+      ∙ ap (λ (n : ℕ). ofInt binary32 (total g k +ℤ column 16 f n t)) (sym back)
+      ∙ ap (λ (n : ℕ). ofInt binary32 (total g n)) (sym (add-one k))
+
+  -- the sum is below 2 ^ 24
+  pub dot-size : count ≤ 512 → natAbs (dotOf z b by count) ≤ 2 ^ 24
+  dot-size few = omega (arith, total-size (term z b by) 2047 count term-size)
+
+  -- all sixteen
+  pub together : (t : ℕ) → 16 * t ≡ count → total (λ (l : ℕ). column 16 (term z b by) (l - 1) t) 16 ≡ dotOf z b by count
+  together t e = columns 16 (term z b by) t ∙ ap (total (term z b by)) e
+
+-- ---- the array of columns: those before l have a row more
+abbrev pub Some : List Float → (ℕ → ℤ) → (ℕ → ℤ) → ℕ → Type 0
+Some acc old new l = ((k : ℕ) → k < l → getD acc k nan ≡ ofInt binary32 (new k)) × ((k : ℕ) → l ≤ k → k < 16 → getD acc k nan ≡ ofInt binary32 (old k))
+
+pub some-more : (acc : List Float) (old new : ℕ → ℤ) (l : ℕ) (x : Float) → length acc ≡ 16 → l < 16 → x ≡ ofInt binary32 (new l) → Some acc old new l → Some (set acc l x) old new (l + 1)
+some-more acc old new l x long h e some = (below, above)
+  where
+    other : (k : ℕ) → (k ≡ l → ⊥) → getD (set acc l x) k nan ≡ getD acc k nan
+    other k d = getD-set-other acc l k x nan d
+
+    below : (k : ℕ) → k < l + 1 → getD (set acc l x) k nan ≡ ofInt binary32 (new k)
+    below k lt =
+        elim (eq-or-lt-of-le (le k lt)) [
+          | inl same ↦ ap (λ (n : ℕ). getD (set acc l x) n nan) same ∙ getD-set-same acc l x nan (omega arith) ∙ e ∙ ap (λ (n : ℕ). ofInt binary32 (new n)) (sym same)
+          | inr less ↦ other k (λ same. absurd (omega arith)) ∙ some .0 k less
+        ]
+      where
+        le : (k : ℕ) → k < l + 1 → k ≤ l
+        le k lt = omega arith
+
+    above : (k : ℕ) → l + 1 ≤ k → k < 16 → getD (set acc l x) k nan ≡ ofInt binary32 (old k)
+    above k lt far = other k (λ same. absurd (omega arith)) ∙ some .1 k (omega arith) far
+
+-- nothing was added yet
+pub none-yet : (acc : List Float) (f : ℕ → ℤ) → ((k : ℕ) → k < 16 → getD acc k nan ≡ ofBits binary32 0) → (k : ℕ) → k < 16 → getD acc k nan ≡ ofInt binary32 (column 16 f k 0)
+none-yet acc f h k l = h k l ∙ zero-plain .0 ∙ ap (ofInt binary32) (sym (column-none 16 f k))
+
+pub nothing-yet : (g : ℕ → ℤ) → ofBits binary32 0 ≡ ofInt binary32 (total g 0)
+unfolding total
+nothing-yet g = zero-plain .0

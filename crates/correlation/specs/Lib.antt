@@ -1,0 +1,2 @@
+pub mod Correlation
+pub mod Inside

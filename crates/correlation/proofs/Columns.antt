@@ -73,8 +73,8 @@ module _ (z b : List Float) (by count : ℕ) (samples : Samples z count) (signs 
       ∙ ap (λ (n : ℕ). ofInt binary32 (total g k +ℤ column 16 f n t)) (sym back)
       ∙ ap (λ (n : ℕ). ofInt binary32 (total g n)) (sym (add-one k))
 
-  -- the sum is below 2 ^ 24
-  pub dot-size : count ≤ 512 → natAbs (dotOf z b by count) ≤ 2 ^ 24
+  -- the sum is at most 512 times 2047, below 2 ^ 24
+  pub dot-size : count ≤ 512 → natAbs (dotOf z b by count) ≤ 1048064
   dot-size few = omega (arith, total-size (term z b by) 2047 count term-size)
 
   -- all sixteen

@@ -1,3 +1,4 @@
 pub mod Columns
 pub mod Turning
 pub mod RowSigns
+pub mod Meaning

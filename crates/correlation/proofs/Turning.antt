@@ -50,18 +50,24 @@ turned-on i (suc s) z = ap (λ (k : ℕ). turnedBack k z) more ∙ ap back (turn
 turned-as : (i r : ℕ) (z : ℤ × ℤ) → i % 4 ≡ r → turnedBack i z ≡ turnedBack r z
 turned-as i r z e = by-remainder i z ∙ ap (λ (k : ℕ). turnedBack k z) e
 
+-- turned, a number has no larger part than before
+pub turned-size : (i k : ℕ) (z : ℤ × ℤ) → natAbs (z .0) ≤ k → natAbs (z .1) ≤ k → (natAbs (turnedBack i z .0) ≤ k) × (natAbs (turnedBack i z .1) ≤ k)
+unfolding turnedBack
+turned-size zero k z p q = (p, q)
+turned-size (suc i) k z p q = let t = turned-size i k z p q in (t .1, omega (arith, size-minus (turnedBack i z .0), t .0))
+
 -- ---- two sums, turned: a and b are the floats of A and B
-module _ (A B : ℤ) (a b : Float) (by : ℕ) (ea : a ≡ ofInt binary32 A) (eb : b ≡ ofInt binary32 B) (la : natAbs A ≤ 2 ^ 24) (lb : natAbs B ≤ 2 ^ 24) where
+module _ (A B : ℤ) (a b : Float) (by : ℕ) (ea : a ≡ ofInt binary32 A) (eb : b ≡ ofInt binary32 B) (la : natAbs A ≤ 1048064) (lb : natAbs B ≤ 1048064) where
   sums-are : (x y : Float) (z : ℤ × ℤ) → turnedBack by (A, B) ≡ z → x ≡ ofInt binary32 (z .0) → y ≡ ofInt binary32 (z .1) → (record { re = x; im = y }) ≡ sumsOf (turnedBack by (A, B))
   unfolding sumsOf
   sums-are x y z e p q = (λ j. record { re = p j; im = q j }) ∙ ap sumsOf (sym e)
 
   -- 0.0 less a sum: the sum with the other sign, and never minus zero
-  less : (C : ℤ) (c : Float) → c ≡ ofInt binary32 C → natAbs C ≤ 2 ^ 24 → sub binary32 (ofBits binary32 0) c ≡ ofInt binary32 (negℤ C)
+  less : (C : ℤ) (c : Float) → c ≡ ofInt binary32 C → natAbs C ≤ 1048064 → sub binary32 (ofBits binary32 0) c ≡ ofInt binary32 (negℤ C)
   less C c e l =
       ap (λ (x : Float). sub binary32 x c) (zero-plain .0)
       ∙ ap (λ (x : Float). sub binary32 (ofInt binary32 (pos 0)) x) e
-      ∙ difference-exact binary32 (ofInt binary32 C) (pos 0) C (omega arith) (whole-is binary32 C l)
+      ∙ difference-exact binary32 (ofInt binary32 C) (pos 0) C (omega arith) (whole-is binary32 C (omega arith))
       ∙ ap (ofInt binary32) (+ℤ-idl (negℤ C))
 
   pub turned-0 : by % 4 ≡ 0 → (record { re = a; im = b }) ≡ sumsOf (turnedBack by (A, B))

@@ -1,0 +1,3 @@
+pub mod Square
+pub mod Best
+pub mod Answers

@@ -10,7 +10,8 @@ use Rattle.signal_card.specs.SignalCard.{f32Of}
 use Rattle.samples.specs.Samples.{badSamples}
 use Rattle.hearing.specs.declared.HearAnswer.{HearAnswer}
 use Rattle.hearing.specs.declared.HearAnswer.the-variants as hear
-use Rattle.hearing.specs.Hearing.{realSum, imaginarySum, strength, loudest}
+use Rattle.correlation.specs.Correlation.{realSum, imaginarySum}
+use Rattle.hearing.specs.Hearing.{strength, loudest}
 
 -- "Refusals: 1 to 3 and 11, then 24 for a sample outside the rule"; two floats for each chip are read
 unfoldable pub hearRefusals : ℕ → ℕ → ℕ → List Float → Refusals

@@ -1,2 +1,3 @@
 pub mod Hearing
 pub mod Calls
+pub mod Inside

@@ -1,0 +1,129 @@
+-- One user more: heard better, not better, or not permitted; and the sums, squares and strength of a user as the code finds them. Cited by the proof of best_heard.
+-- Assumes nothing.
+use mathlib.Core.Path.{_≡_, refl, sym, ap, _∙_, subst}
+use mathlib.Core.Bool.{Bool, true, false, cond, _&&_}
+use mathlib.Core.List.{List}
+use Prim.Native.Nat.{ℕ, zero, suc, _+_, _*_, _^_, _≤_, _<_}
+use native.Mathlib.Nat.{zero-lt-suc}
+use native.Mathlib.Numerals.{add-one}
+use native.Mathlib.Omega.{arith}
+use borrow.Author.Tests.{lt-ltb, le-ltb}
+use lib.Dec.{T, ltb, ltb→lt}
+use lib.IntN.{ℤ, pos, natAbs}
+use lib.Ieee.{Float, binary32, ofInt, ofBits}
+use Rattle.floats.proofs.Whole.{zero-plain}
+use Rattle.floats.proofs.Sums.{whole-is}
+use Rattle.refusals.specs.Refusals.{answered}
+use Rattle.codes.specs.Codes.{codeOf, shiftOf, permitted}
+use Rattle.codes.proofs.Numbers.{shift-low, length-high}
+use Rattle.samples.specs.Samples.{sampleOf}
+use Rattle.samples.proofs.Reading.{reads}
+use Rattle.correlation.specs.declared.Sums.{Sums}
+use Rattle.correlation.specs.Inside.{turnedBack, dotOf, sumsOf, Samples, Signs}
+use Rattle.correlation.proofs.Columns.{dot-size}
+use Rattle.correlation.proofs.Turning.{turned-size}
+use Rattle.hearing.specs.declared.HearAnswer.{HearAnswer}
+use Rattle.hearing.specs.declared.HearAnswer.the-variants as hear
+use Rattle.hearing.specs.Hearing.{loudest}
+use Rattle.hearing.specs.Calls.{Heard, nobody, somebody, saidHear}
+use Rattle.hearing.specs.Inside.{square, sumsIn, sumsAt, strengthIn, loudestIn, heardIn}
+use Rattle.hearing.proofs.Square.{square-size}
+
+-- ---- one user more
+module _ (may : ℕ → Bool) (heard : ℕ → ℕ) (u who : ℕ) (so-far : who ≡ loudest may heard u) where
+  step : (b c : Bool) → may (suc u) ≡ b → ltb (heard (loudest may heard u)) (heard (suc u)) ≡ c → loudest may heard (u + 1) ≡ cond (b && c) (suc u) (loudest may heard u)
+  unfolding loudest
+  step b c p q =
+      ap (loudest may heard) (add-one u)
+      ∙ ap (λ (x : Bool). cond (x && ltb (heard (loudest may heard u)) (heard (suc u))) (suc u) (loudest may heard u)) p
+      ∙ ap (λ (x : Bool). cond (b && x) (suc u) (loudest may heard u)) q
+
+  pub better : may (u + 1) ≡ true → heard who < heard (u + 1) → u + 1 ≡ loudest may heard (u + 1)
+  better p h =
+      let one = add-one u in
+      let more : heard (loudest may heard u) < heard (suc u) = omega (arith, ap heard so-far, ap heard one) in
+      one ∙ sym (step true true (ap may (sym one) ∙ p) (lt-ltb _ _ more))
+
+  pub no-better : may (u + 1) ≡ true → heard (u + 1) ≤ heard who → who ≡ loudest may heard (u + 1)
+  no-better p h =
+      let one = add-one u in
+      let no-more : heard (suc u) ≤ heard (loudest may heard u) = omega (arith, ap heard so-far, ap heard one) in
+      so-far ∙ sym (step true false (ap may (sym one) ∙ p) (le-ltb _ _ no-more))
+
+  pub not-permitted : may (u + 1) ≡ false → who ≡ loudest may heard (u + 1)
+  not-permitted p = so-far ∙ sym (step false _ (ap may (sym (add-one u)) ∙ p) refl)
+
+-- ---- a user's sums, from what user_sums gives
+module _ (re im signs : List Float) (burst user by chips : ℕ) (known : 1 ≤ user) (at : by ≡ shiftOf (codeOf burst) user) (long : chips ≡ codeOf burst .length)
+    (s : Sums) (e : s ≡ sumsOf (turnedBack by (dotOf re signs by chips, dotOf im signs by chips)))
+    (reals : Samples re (codeOf burst .length)) (imaginaries : Samples im (codeOf burst .length)) (ones : Signs signs 992) where
+  sums-at : turnedBack by (dotOf re signs by chips, dotOf im signs by chips) ≡ sumsIn re im signs burst user
+  unfolding sumsIn
+  sums-at =
+      ap (λ (k : ℕ). turnedBack k (dotOf re signs k chips, dotOf im signs k chips)) at
+      ∙ ap (λ (n : ℕ). turnedBack (shiftOf (codeOf burst) user) (dotOf re signs (shiftOf (codeOf burst) user) n, dotOf im signs (shiftOf (codeOf burst) user) n)) long
+
+  as-sums : s ≡ sumsOf (sumsIn re im signs burst user)
+  as-sums = e ∙ ap sumsOf sums-at
+
+  pub real-is : s .re ≡ ofInt binary32 (sumsIn re im signs burst user .0)
+  unfolding sumsOf
+  real-is = ap (λ (x : Sums). x .re) as-sums
+
+  pub imaginary-is : s .im ≡ ofInt binary32 (sumsIn re im signs burst user .1)
+  unfolding sumsOf
+  imaginary-is = ap (λ (x : Sums). x .im) as-sums
+
+  sizes : (natAbs (sumsIn re im signs burst user .0) ≤ 1048064) × (natAbs (sumsIn re im signs burst user .1) ≤ 1048064)
+  unfolding sumsIn
+  sizes =
+      let k = shiftOf (codeOf burst) user in
+      let n = codeOf burst .length in
+      let fewer : Signs signs (k + n) = record { all = λ m h. ones .all m (omega (arith, shift-low burst user known, length-high burst)) } in
+      turned-size k 1048064 (dotOf re signs k n, dotOf im signs k n) (dot-size re signs k n reals fewer (length-high burst)) (dot-size im signs k n imaginaries fewer (length-high burst))
+
+  -- what `squared` asks of a sum, and what it gives
+  asks : (z : ℤ) (x : Float) → natAbs z ≤ 1048064 → x ≡ ofInt binary32 z → (x ≡ ofInt binary32 (sampleOf x)) × (natAbs (sampleOf x) ≤ 1048064)
+  asks z x h p =
+      let i : sampleOf x ≡ z = ap sampleOf p ∙ reads (ofInt binary32 z) z (whole-is binary32 z (omega arith)) in
+      (p ∙ ap (ofInt binary32) (sym i), subst (λ (y : ℤ). natAbs y ≤ 1048064) (sym i) h)
+
+  gives : (z : ℤ) (x : Float) (r : ℕ) → natAbs z ≤ 1048064 → x ≡ ofInt binary32 z → r ≡ square (sampleOf x) → (r ≡ square z) × (r ≤ 1098438148096)
+  gives z x r h p q =
+      let i : sampleOf x ≡ z = ap sampleOf p ∙ reads (ofInt binary32 z) z (whole-is binary32 z (omega arith)) in
+      let same : r ≡ square z = q ∙ ap square i in
+      (same, omega (arith, square-size (natAbs z) h))
+
+  pub real-asks : (s .re ≡ ofInt binary32 (sampleOf (s .re))) × (natAbs (sampleOf (s .re)) ≤ 1048064)
+  real-asks = asks _ (s .re) (sizes .0) real-is
+
+  pub imaginary-asks : (s .im ≡ ofInt binary32 (sampleOf (s .im))) × (natAbs (sampleOf (s .im)) ≤ 1048064)
+  imaginary-asks = asks _ (s .im) (sizes .1) imaginary-is
+
+  pub strength-is : (x y : ℕ) → x ≡ square (sampleOf (s .re)) → y ≡ square (sampleOf (s .im)) → (x + y ≡ square (sumsIn re im signs burst user .0) + square (sumsIn re im signs burst user .1)) × (x ≤ 1098438148096) × (y ≤ 1098438148096)
+  strength-is x y p q =
+      let a = gives _ (s .re) x (sizes .0) real-is p in
+      let b = gives _ (s .im) y (sizes .1) imaginary-is q in
+      (omega (arith, a .0, b .0), a .1, b .1)
+
+-- ---- the reply
+module _ (re im signs : List Float) (burst count : ℕ) where
+  pub at-start : (0 ≡ loudestIn re im signs burst count 0) × (0 ≡ strengthIn re im signs burst 0) × (ofBits binary32 0 ≡ ofInt binary32 (sumsAt re im signs burst 0 .0)) × (ofBits binary32 0 ≡ ofInt binary32 (sumsAt re im signs burst 0 .1))
+  unfolding loudest strengthIn sumsAt
+  at-start = (refl, refl, zero-plain .0, zero-plain .0)
+
+  pub sums-of : (u : ℕ) → sumsAt re im signs burst (u + 1) ≡ sumsIn re im signs burst (u + 1)
+  unfolding sumsAt
+  sums-of u = ap (sumsAt re im signs burst) (add-one u) ∙ ap (sumsIn re im signs burst) (sym (add-one u))
+
+  pub said-nobody : (k who : ℕ) → who ≡ loudestIn re im signs burst count k → who ≡ 0 → saidHear hear.Nobody ≡ answered (heardIn re im signs burst (loudestIn re im signs burst count k))
+  unfolding saidHear heardIn
+  said-nobody k who e z = ap (λ (n : ℕ). answered (heardIn re im signs burst n)) (sym z ∙ e)
+
+  pub said-user : (k who : ℕ) (x y : Float) → who ≡ loudestIn re im signs burst count k → (who ≡ 0 → ⊥) → x ≡ ofInt binary32 (sumsAt re im signs burst who .0) → y ≡ ofInt binary32 (sumsAt re im signs burst who .1)
+      → saidHear (hear.User who x y) ≡ answered (heardIn re im signs burst (loudestIn re im signs burst count k))
+  said-user k who x y e some p q = by who some p q ∙ ap (λ (n : ℕ). answered (heardIn re im signs burst n)) e
+    where
+      by : (n : ℕ) → (n ≡ 0 → ⊥) → x ≡ ofInt binary32 (sumsAt re im signs burst n .0) → y ≡ ofInt binary32 (sumsAt re im signs burst n .1) → saidHear (hear.User n x y) ≡ answered (heardIn re im signs burst n)
+      by zero some p q = absurd (some refl)
+      by (suc n) some p q = unfold saidHear in unfold heardIn in (λ j. answered (somebody (suc n) (p j) (q j)))

@@ -1,3 +1,4 @@
 pub mod Square
 pub mod Best
 pub mod Answers
+pub mod Unique

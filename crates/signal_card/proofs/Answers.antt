@@ -1,4 +1,4 @@
--- What each `return` of the two calls answers, over plain values. Cited by the proofs of at_any_level, pair and pairs, and by the crate facts.
+-- What each `return` of the two calls answers, over plain values. Cited by the proofs of at_any_level, pair and pairs, and by the crates facts and clean_copies.
 -- Assumes nothing.
 use mathlib.Core.Path.{_≡_, refl, sym, ap, _∙_}
 use mathlib.Core.Bool.{Bool, true, false}
@@ -13,9 +13,9 @@ use borrow.Author.Tests.{ltb-false}
 use Rattle.laws.specs.Runs.{run}
 use Rattle.laws.proofs.Bools.{or-false}
 use Rattle.laws.proofs.Runs.{run-length, run-at}
-use Rattle.refusals.specs.Refusals.{Refusals, _leaving_, firstOf, answer}
+use Rattle.refusals.specs.Refusals.{Refusals, answered, _leaving_, firstOf, answer}
 use Rattle.refusals.specs.Inside.{orRefused}
-use Rattle.refusals.proofs.First.{first-holds, first-passes, first-none, append-refused, append-passes, reads-behind, reads-row, reads-all, append-front, answer-given, answer-refusal, refused-by, refused-leaving, answered-by, answered-leaving}
+use Rattle.refusals.proofs.First.{first-holds, first-passes, first-none, append-refused, append-passes, reads-behind, reads-row, reads-all, append-front, answer-given, answer-refusal, refused-by, refused-leaving, answered-by, answered-leaving, leaving-given}
 use Rattle.conditions.specs.Conditions.{badLevel, tooShort}
 use Rattle.tables.specs.Tables.{userRefusals}
 use Rattle.codes.specs.declared.Code.{Code}
@@ -91,6 +91,12 @@ row-good cell burst count user a out z =
     let front = append-front t _ k z in
     let room = first-none 10 (tooShort (2 * codeOf burst .length) out) _ (sym (append-passes t _ k front) ∙ z) in
     (front, room .0, first-none 21 (badLevel a) [] (room .1) .0)
+
+-- a row that was filled: nothing was refused, and it begins with the floats of the user's chips
+pub pairs-given : (cell burst count user a n : ℕ) (out left : List Float) → pairsOutcome cell burst count user a out ≡ (answered n leaving left)
+    → (firstOf (pairsRefusals cell burst count user a out) ≡ 0) × (floatsOf a (chipsOf cell burst user) ++ drop (2 * codeOf burst .length) out ≡ left)
+unfolding pairsOutcome
+pairs-given cell burst count user a n out left e = let w = leaving-given _ _ _ out _ left e in (w .0, w .2)
 
 -- a whole midamble: d is the code that was fetched, m what the tests of the user gave, k and n what those of the memory and of the level made of it
 module _ (cell burst count user a m k n : ℕ) (b : Bool) (out : List Float) (d : Code) (e : d ≡ codeOf burst) (t : b ≡ badLevel a)

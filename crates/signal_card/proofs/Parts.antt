@@ -1,4 +1,4 @@
--- The four chips as the code makes them, and one of them. Cited by the proofs of this crate.
+-- The four chips as the code makes them, one of them, and how large its parts are. Cited by the proofs of this crate and by the crates facts and clean_copies.
 -- Assumes nothing.
 use mathlib.Core.Path.{_≡_, refl, ap, _∙_}
 use mathlib.Core.Bool.{Bool, true, false, cond}
@@ -7,7 +7,7 @@ use Prim.Native.Nat.{ℕ, zero, suc, _+_, _-_, _%_, _≤_, _<_}
 use native.Mathlib.Nat.{mod-lt}
 use native.Mathlib.Omega.{arith}
 use lib.Dec.{T, eqb, le→leb, lit≤}
-use lib.IntN.{pos, negℤ}
+use lib.IntN.{ℤ, pos, negℤ, natAbs}
 use lib.Ieee.{Float, binary32, neg, ofInt, ofBits, inFloat}
 use Rattle.code_text.specs.Rows.{bitAt}
 use Rattle.elements.specs.Elements.{turned, basic, element}
@@ -57,3 +57,19 @@ element-below P row i = by (eqb (bitAt row ((i - 1) % P + 1 - 1)) 1) ((i - 1) % 
     by : (b : Bool) (k : ℕ) → cond b (k % 4) ((k + 2) % 4) < 4
     by true k = mod-lt k (lit≤ tt)
     by false k = mod-lt (k + 2) (lit≤ tt)
+
+-- no part of a chip is larger than the level
+minus-size : (a : ℕ) → natAbs (negℤ (pos a)) ≡ a
+minus-size zero = refl
+minus-size (suc a) = refl
+
+pub parts-size : (a p : ℕ) → (natAbs (pairOf a p .0) ≤ a) × (natAbs (pairOf a p .1) ≤ a)
+unfolding pairOf
+parts-size a p = by (eqb p 0) (eqb p 1) (eqb p 2)
+  where
+    by : (b c d : Bool) → let q : ℤ × ℤ = cond b (pos a, pos 0) (cond c (pos 0, pos a) (cond d (negℤ (pos a), pos 0) (pos 0, negℤ (pos a)))) in
+        (natAbs (q .0) ≤ a) × (natAbs (q .1) ≤ a)
+    by true c d = (omega arith, omega arith)
+    by false true d = (omega arith, omega arith)
+    by false false true = (omega (arith, minus-size a), omega arith)
+    by false false false = (omega arith, omega (arith, minus-size a))

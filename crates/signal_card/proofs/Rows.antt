@@ -1,13 +1,16 @@
--- A row of floats is written from the front, two a turn: the parts of one chip. Cited by the proof of `fill` and by the crate facts.
--- Assumes nothing.
+-- A row of floats is written from the front, two a turn: the parts of one chip. And where the parts of a chip then stand. Cited by the proof of `fill` and by the
+-- crates facts and clean_copies. Assumes nothing.
 use mathlib.Core.Path.{_≡_, refl, sym, ap, _∙_}
 use mathlib.Core.List.{List, [], _∷_, _++_}
-use Prim.Native.Nat.{ℕ, zero, suc, _+_, _*_, _<_}
+use Prim.Native.Nat.{ℕ, zero, suc, _+_, _-_, _*_, _<_, _≤_}
 use native.Mathlib.Numerals.{add-one}
 use native.Mathlib.Omega.{arith}
-use lib.ListN.{length, take, drop, set, getD}
+use lib.ListN.{length, take, drop, set, getD, List·getD-append}
 use lib.Seq.{drop-cons, take-suc, length-take-le}
 use lib.Ieee.{Float, nan}
+use Rattle.laws.proofs.Runs.{run-length, run-at}
+use Rattle.codes.specs.Codes.{codeOf}
+use Rattle.midambles.specs.TrainingSequences.{chipOf, chipsOf}
 use Rattle.signal_card.specs.SignalCard.{realOf, imaginaryOf, floatsOf}
 
 -- two floats a chip
@@ -55,3 +58,39 @@ floats-turn a chips d out i x y h room e ex ey =
     ∙ ap (λ (l : List ℕ). floatsOf a l ++ rest) (sym (take-suc chips i 0 h))
     ∙ ap (λ (k : ℕ). floatsOf a (take k chips) ++ rest) (sym (add-one i))
     ∙ ap (λ (k : ℕ). floatsOf a (take (i + 1) chips) ++ drop k d) far
+
+-- the two floats of chip k, counted from 0, in a row of them
+pub floats-at : (a : ℕ) (l : List ℕ) (k : ℕ) → k < length l
+    → (getD (floatsOf a l) (2 * k) nan ≡ realOf a (getD l k 0)) × (getD (floatsOf a l) (2 * k + 1) nan ≡ imaginaryOf a (getD l k 0))
+unfolding floatsOf
+floats-at a [] k h = absurd (omega arith)
+floats-at a (p ∷ l) zero h = (refl, refl)
+floats-at a (p ∷ l) (suc k) h =
+    let rest = floats-at a l k (omega arith) in
+    let even : 2 * suc k ≡ suc (suc (2 * k)) = omega arith in
+    let odd : 2 * suc k + 1 ≡ suc (suc (2 * k + 1)) = omega arith in (
+      ap (λ (n : ℕ). getD (realOf a p ∷ imaginaryOf a p ∷ floatsOf a l) n nan) even ∙ rest .0,
+      ap (λ (n : ℕ). getD (realOf a p ∷ imaginaryOf a p ∷ floatsOf a l) n nan) odd ∙ rest .1,
+    )
+
+-- a user's midamble, two floats a chip
+pub midamble-length : (cell burst user a : ℕ) → length (floatsOf a (chipsOf cell burst user)) ≡ 2 * codeOf burst .length
+unfolding chipsOf
+midamble-length cell burst user a = floats-length a (chipsOf cell burst user) ∙ ap (λ (n : ℕ). 2 * n) (run-length _ (codeOf burst .length))
+
+-- the two floats of chip i, counted from 1, in a row that begins with it
+module _ (cell burst user a : ℕ) (rest row : List Float) (whole : floatsOf a (chipsOf cell burst user) ++ rest ≡ row) where
+  pub row-at : (i : ℕ) → 1 ≤ i → i ≤ codeOf burst .length
+      → (getD row (2 * (i - 1)) nan ≡ realOf a (chipOf cell burst user i)) × (getD row (2 * (i - 1) + 1) nan ≡ imaginaryOf a (chipOf cell burst user i))
+  unfolding chipsOf
+  row-at i low high =
+      let chips = chipsOf cell burst user in
+      let L = codeOf burst .length in
+      let k = i - 1 in
+      let size : length chips ≡ L = run-length _ L in
+      let back : k + 1 ≡ i = omega arith in
+      let here : getD chips k 0 ≡ chipOf cell burst user i = run-at _ L k (omega arith) ∙ ap (λ (j : ℕ). chipOf cell burst user j) back in
+      let two = floats-at a chips k (omega (arith, size)) in
+      let front : (j : ℕ) → j < 2 * L → getD row j nan ≡ getD (floatsOf a chips) j nan =
+      λ j h. ap (λ (l : List Float). getD l j nan) (sym whole) ∙ List·getD-append (floatsOf a chips) rest nan j (omega (arith, midamble-length cell burst user a)) in
+      (front (2 * k) (omega arith) ∙ two .0 ∙ ap (realOf a) here, front (2 * k + 1) (omega arith) ∙ two .1 ∙ ap (imaginaryOf a) here)

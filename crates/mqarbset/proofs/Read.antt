@@ -12,6 +12,7 @@ use Rattle.midambles.specs.Calls.{chipAnswer, midambleOutcome}
 use Rattle.blocks.specs.declared.Place.{Place}
 use Rattle.blocks.specs.Calls.{startAnswer, blockRefusals, blockOutcome}
 use Rattle.signal_card.specs.Calls.{pairAnswer, pairsOutcome}
+use Rattle.hearing.specs.Calls.{heardOf, whoIsHeard, hearAnswer}
 use Rattle.timeslots.specs.Timeslots.{Part, DATA1, TFCI1, MIDAMBLE, TPC, TFCI2, DATA2, GUARD, order, partLengths, spans, sevenParts}
 use Rattle.beacons.specs.Beacons.{beaconsOf}
 use Rattle.beacons.specs.Calls.{beaconAnswer}
@@ -29,6 +30,7 @@ use Rattle.mqarbset_answers.specs.Answers.{answerAsC, outcomeAsC, answerInC}
 use Rattle.mqarbset_answers.specs.Parts.{partsAsC, partNumber, placeAsC, beaconsAsC, zipped, partsInC, placeInC, beaconsInC}
 use Rattle.mqarbset_answers.specs.Pages.{indicatorAsC, ownerAsC, indicatorInC, ownerInC}
 use Rattle.mqarbset_answers.specs.Pairs.{pairAsC, pairInC}
+use Rattle.mqarbset_answers.specs.Air.{heardAsC, heardInC}
 use Rattle.mqarbset_answers.specs.Summaries.{summaryAsC, wayOf, summaryInC}
 use Rattle.mqarbset_answers.specs.Blocks.{placeAsHeld, heldAsPlace, startAsC, startInC, blockAsC, blockOutcomeAsC, blockInC}
 use Rattle.mqarbset.specs.Calls.{partsAnswerOverC, atAnswerOverC}
@@ -114,6 +116,16 @@ read-block p out = read-with-place (eqb (firstOf (blockRefusals p)) 0) (firstOf 
 pub read-pair : (cell burst count user chip level : ℕ) → pairInC (pairAsC (pairAnswer cell burst count user chip level)) ≡ pairAnswer cell burst count user chip level
 unfolding pairInC pairAsC pairAnswer
 read-pair cell burst count user chip level = back pairAsC pairInC (λ m e. simp e) _ _ (λ _. refl)
+
+-- nobody is no user's number, and no user is number 0
+heard-back : (cell burst : ℕ) (row : List Float) (k : ℕ) → heardInC (heardAsC (answered (heardOf cell burst row k))) ≡ answered (heardOf cell burst row k)
+unfolding heardInC heardAsC heardOf
+heard-back cell burst row zero = refl
+heard-back cell burst row (suc k) = refl
+
+pub read-hear : (cell burst count : ℕ) (row : List Float) → heardInC (heardAsC (hearAnswer cell burst count row)) ≡ hearAnswer cell burst count row
+unfolding heardInC heardAsC hearAnswer
+read-hear cell burst count row = back heardAsC heardInC (λ m e. simp e) _ _ (λ _. heard-back cell burst row (whoIsHeard cell burst count row))
 
 pub read-parts : (burst direction factor tfci tpc : ℕ)
     → partsInC (partsAsC (partsAnswerOverC burst direction factor tfci tpc)) ≡ partsAnswerOverC burst direction factor tfci tpc

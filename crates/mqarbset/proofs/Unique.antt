@@ -18,6 +18,7 @@ use Rattle.mqarbset.proofs.by_block.mq_block_start.Reads as block-start
 use Rattle.mqarbset.proofs.by_block.mq_block_value.Reads as block
 use Rattle.mqarbset.proofs.pairs.mq_pair.Reads as pair
 use Rattle.mqarbset.proofs.pairs.mq_pairs.Reads as pairs
+use Rattle.mqarbset.proofs.air.mq_hear.Reads as hear
 use Rattle.mqarbset.proofs.parts.mq_parts.Reads as parts
 use Rattle.mqarbset.proofs.parts.mq_at.Reads as at
 use Rattle.mqarbset.proofs.parts.mq_beacon.Reads as beacon
@@ -63,6 +64,12 @@ mq-pair-total κs a = tt
 
 pub mq-pair-unique : (κs : _) (a : _) (r r' : _) (s s' : _) → pair.Post κs a r s → pair.Post κs a r' s' → r ≡ r'
 mq-pair-unique κs a r r' s s' p q = p ∙ sym q
+
+pub mq-hear-total : (κs : _) (a : _) → hear.Pre κs a
+mq-hear-total κs a = tt
+
+pub mq-hear-unique : (κs : _) (a : _) (r r' : _) (s s' : _) → hear.Post κs a r s → hear.Post κs a r' s' → r ≡ r'
+mq-hear-unique κs a r r' s s' p q = p ∙ sym q
 
 pub mq-summary-value-total : (κs : _) (a : _) → summary.Pre κs a
 mq-summary-value-total κs a = tt

@@ -4,3 +4,4 @@ pub mod Pages
 pub mod Pairs
 pub mod Blocks
 pub mod Summaries
+pub mod Air

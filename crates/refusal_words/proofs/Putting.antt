@@ -72,11 +72,11 @@ pub last-one : (b k n : ℕ) → NoneFrom b k n → b < n → n ≤ b + k + 1 �
 last-one b k n r h e = let m = beyond b k n r h in omega arith
 
 -- a number that is no refusal's
-wordless : (z : Bool) (n : ℕ) → eqb n 0 ≡ z → (z ≡ false → 23 < n) → wordsOf n ≡ []
+wordless : (z : Bool) (n : ℕ) → eqb n 0 ≡ z → (z ≡ false → 24 < n) → wordsOf n ≡ []
 unfolding wordsOf conditions
 wordless true n e h = simp e
 wordless false n e h = let far = h refl in simp (e, List·getD-eq-default conditions "" {n = n - 1} (omega arith))
 
-pub no-words : {o : Outcome ℕ (List ℕ)} (number : ℕ) (was : List ℕ) → ((number ≡ 0 → ⊥) → 23 < number) → o ≡ putting [] was → o ≡ wordsOutcome number was
+pub no-words : {o : Outcome ℕ (List ℕ)} (number : ℕ) (was : List ℕ) → ((number ≡ 0 → ⊥) → 24 < number) → o ≡ putting [] was → o ≡ wordsOutcome number was
 unfolding wordsOutcome
 no-words number was h p = p ∙ ap (λ (t : List ℕ). putting t was) (sym (wordless (eqb number 0) number refl (λ e. h (eqb-false number 0 e))))

@@ -1,4 +1,4 @@
--- Document 01, "Refusal numbers": the words of each number, the column Condition of its table, but for 3, 4 and 16, which document 02 makes untrue, and 22 and 23,
+-- Document 01, "Refusal numbers": the words of each number, the column Condition of its table, but for 3, 4 and 16, which document 02 makes untrue, and 22 to 24,
 -- which it adds: it gives none for these, and docs/LESSONS.md, "Refusals", has theirs. Cited by the promise of `words`.
 -- Assumes nothing.
 use mathlib.Core.Bool.{cond}
@@ -37,7 +37,8 @@ conditions =
     "common room used up" ∷
     "no such booking" ∷
     "level not 1 to 2047" ∷
-    "place above the midamble length" ∷ []
+    "place above the midamble length" ∷
+    "sample not a whole number from -2047 to 2047" ∷ []
 
 -- a number that is no refusal's has no words
 unfoldable pub wordsOf : ℕ → List ℕ

@@ -1,4 +1,4 @@
-// The words of each refusal, for a caller over C to show and for the program `bench`: document 01's, but for 3, 4, 16, 22 and 23, whose words docs/LESSONS.md has.
+// The words of each refusal, for a caller over C to show and for the program `bench`: document 01's, but for 3, 4, 16 and 22 to 24, whose words docs/LESSONS.md has.
 ghost use mathlib.Core.Path.{_≡_};
 ghost use mathlib.Core.List.{_++_};
 ghost use Prim.Native.Nat.{_≤_};
@@ -108,7 +108,7 @@ fn words_to_21(number: u32, out: &mut [u8]) -> WordsAnswer
     }
 }
 
-// Of 22 and 23, which are document 02's; and none above them.
+// Of 22 to 24, which are document 02's; and none above them.
 fn words_from_22(number: u32, out: &mut [u8]) -> WordsAnswer
     requires { ⌜ 22 ≤ number ⌝ }
     ensures { λ r. ⌜ saidWords r leaving now (out .exit) ≡ wordsOutcome number (now (out .entry)) ⌝ }
@@ -116,6 +116,7 @@ fn words_from_22(number: u32, out: &mut [u8]) -> WordsAnswer
     match number {
         22 => put(b"level not 1 to 2047", out),
         23 => put(b"place above the midamble length", out),
+        24 => put(b"sample not a whole number from -2047 to 2047", out),
         _ => put(b"", out),
     }
 }

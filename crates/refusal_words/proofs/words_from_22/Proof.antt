@@ -1,4 +1,4 @@
--- `refusal_words::words_from_22` meets its promise: the texts of 22 and 23 are those of the definition, by computation, and above them there is none.
+-- `refusal_words::words_from_22` meets its promise: the texts of 22 to 24 are those of the definition, by computation, and above them there is none.
 -- Assumes nothing.
 use borrow.Author.Needs.{needs}
 use Rattle.refusal_words.specs.Words.{wordsOf}
@@ -24,6 +24,12 @@ slice-aggregate-put-3 c = search needs
 put-requires-3 : tie.Need-put-requires-3
 put-requires-3 c κs = search needs
 
+slice-aggregate-put-4 : tie.Need-slice-aggregate-put-4
+slice-aggregate-put-4 c = search needs
+
+put-requires-4 : tie.Need-put-requires-4
+put-requires-4 c κs = search needs
+
 same-length : tie.Need-same-length
 same-length c = search needs
 
@@ -42,7 +48,14 @@ same-length-3 : tie.Need-same-length-3
 same-length-3 c = search needs
 
 returns-3 : tie.Need-returns-3
-returns-3 c = no-words _ _ (λ _. beyond 21 2 _ (c .before .before .before .before .before .match .rest) (c .before .before .before .before .before .before .before .pre)) (c .before .before .put3 .ensures)
+unfolding wordsOf
+returns-3 c = by-number _ 24 _ (c .before .before .before .before .before .match .keys3) (c .before .before .put3 .ensures)
+
+same-length-4 : tie.Need-same-length-4
+same-length-4 c = search needs
+
+returns-4 : tie.Need-returns-4
+returns-4 c = no-words _ _ (λ _. beyond 21 3 _ (c .before .before .before .before .before .match .rest) (c .before .before .before .before .before .before .before .pre)) (c .before .before .put4 .ensures)
 
 pub words-from-22-spec : {M : Type 1} → statement M
 words-from-22-spec =
@@ -54,9 +67,13 @@ words-from-22-spec =
     put-requires-2
     slice-aggregate-put-3
     put-requires-3
+    slice-aggregate-put-4
+    put-requires-4
     same-length
     returns
     same-length-2
     returns-2
     same-length-3
-    returns-3)
+    returns-3
+    same-length-4
+    returns-4)

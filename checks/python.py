@@ -1,12 +1,16 @@
-"""The Python module beside what it says: users and counts, the default counts, midambles by the block, rows of floats, summaries, threads, copies, pickles, wrong arguments, where the library is found, its version.
+"""The Python module beside what it says: users and counts, the default counts, midambles by the block, rows of floats, who is on the air, summaries, threads, copies, pickles, wrong arguments, where the library is found, its version.
 
     MQARBSET_LIBRARY=.. PYTHONPATH=python python3 checks/python.py TEMPORARY-FOLDER
 
 checks/run calls it. Says what does not hold and ends with 1, or says how much was tried.
 """
 import array
+import collections
 import concurrent.futures
 import copy
+import ctypes
+import decimal
+import fractions
 import inspect
 import itertools
 import math
@@ -162,6 +166,109 @@ def floats():
     holds('22 is last in order', raised(Refused, mqarbset.pair, 0, 1, 8, 1, 513, 0).number == 10 and raised(Refused, mqarbset.pairs, 0, 1, 8, 9, 0).number == 4)
 
 
+def hearing():
+    """Who is heard: clean copies, turned ones, nobody, and what is refused beside a neighbour that is answered."""
+    for burst, count, permitted, chips in ((1, 16, range(1, 17), 512), (3, 8, range(1, 9), 512), (1, 4, (1, 3, 5, 7), 512), (2, 6, range(1, 7), 256), (2, 3, (1, 2, 3), 256)):
+        for user, level in itertools.product(permitted, (1, 1000, 2047)):
+            row = mqarbset.pairs(17, burst, count, user, level)
+            heard = mqarbset.hear(17, burst, count, row)
+            holds('a clean copy is heard as its user', heard == (user, level * chips, 0.0))
+            holds('a user is a whole number, and a sum a float', type(heard) is mqarbset.Heard and [type(x) for x in heard] == [int, float, float])
+            holds('no zero is a minus zero', math.copysign(1, heard.im) == 1)
+            turned = [x for re, im in zip(row[::2], row[1::2]) for x in (-im, re)]
+            holds('turned by j, so are the sums', mqarbset.hear(17, burst, count, turned) == (user, 0.0, level * chips))
+        holds('zeros and minus zeros are nobody', mqarbset.hear(17, burst, count, [0, -0.0, 0.0, False] * (chips // 2)) is None)
+        again = [0] * (2 * chips)  # a midamble's last chips are its first ones again, 456 (type 2: 192) chips later
+        again[0], again[384 if burst == 2 else 912] = 5, -5
+        holds('nobody is heard where all sums are zero', mqarbset.hear(17, burst, count, again) is None)
+        alike = [0] * (2 * chips)
+        alike[-1] = -2047
+        holds('of all that are heard alike it is the lowest', mqarbset.hear(17, burst, count, alike).user == 1)
+
+    row = mqarbset.pairs(17, 1, 8, 5, 1000)
+    short = row[:512]
+    for passed, number in (((128, 1, 8, row), 1), ((17, 4, 8, row), 2), ((17, 1, 6, row), 3), ((17, 2, 8, row), 3), ((17, 1, 8, row[:1023]), 11), ((17, 2, 6, short[:511]), 11), ((17, 3, 4, []), 11)):
+        holds(f'refused with {number}', raised(Refused, mqarbset.hear, *passed).number == number)
+    for passed in ((127, 1, 8, row), (17, 3, 8, row), (17, 1, 4, row), (17, 2, 6, row), (17, 1, 8, row[:1024]), (17, 2, 6, short), (17, 1, 8, row + row)):
+        holds('and a neighbour is answered', mqarbset.hear(*passed) is not None)
+    worst = [0.5]
+    holds('the lowest is given', [raised(Refused, mqarbset.hear, *numbers, worst).number for numbers in ((128, 4, 5), (17, 4, 5), (17, 1, 5), (17, 1, 8))] == [1, 2, 3, 11])
+
+    # 24. What no float of C equals is not rounded: each of these is refused where it is read, and not where it isn't.
+    wrong = (2048, -2048, 0.5, -0.5, 2047.5, 1e-40, 5e-324, math.inf, -math.inf, math.nan, 5.00000001, -4.999999999, 1e300, 2 ** 24 + 1, 10 ** 30, -10 ** 400, fractions.Fraction(1, 3),
+             decimal.Decimal('5.00000000000000000000001'))
+    right = (2047, -2047, 0, -0.0, 5.0, True, fractions.Fraction(6, 2), decimal.Decimal('-7'))
+    for burst, count, samples in ((1, 8, 1024), (2, 6, 512)):
+        for sample, place in itertools.product(wrong + right, (0, 333, samples - 1, samples)):
+            longer = list(row[:samples]) + [0]
+            longer[place] = sample
+            if sample in right or place == samples:
+                holds(f'a sample of {sample!r} is answered', mqarbset.hear(17, burst, count, longer) == mqarbset.hear(17, burst, count, array.array('f', longer[:samples])) is not None)
+            else:
+                holds(f'a sample of {sample!r} is refused with 24', raised(Refused, mqarbset.hear, 17, burst, count, longer).number == 24)
+    longer = row + array.array('f', [math.nan])
+    longer[1023] = 0.5
+    holds('also in an array of floats', raised(Refused, mqarbset.hear, 17, 1, 8, longer).number == 24)
+    holds('but not behind what is read', mqarbset.hear(17, 1, 8, row + array.array('f', [math.nan])) == mqarbset.hear(17, 1, 8, row))
+
+
+def lent(row):
+    """Where the floats lie that the library gets for a row, and how many they are."""
+    called, got = mqarbset._library.mq_hear, []
+
+    def hear(*passed):
+        got.append((ctypes.addressof(passed[3]), passed[4]))
+        return called(*passed)
+
+    mqarbset._library.mq_hear = hear
+    mqarbset.hear(17, 2, 6, row)
+    mqarbset._library.mq_hear = called
+    return got[0]
+
+
+def heard_rows():
+    """What may be a row, which rows are lent as they lie, and that none is written or held; what is no row."""
+    row = mqarbset.pairs(17, 2, 6, 5, 1000)
+    whole, before = [int(x) for x in row], bytes(row)
+    wanted = mqarbset.hear(17, 2, 6, row)
+    of_c = (ctypes.c_float * 512)(*row)
+    view, frozen = memoryview(row), memoryview(row).toreadonly()
+    square = view.cast('B').cast('f', (256, 2))
+    for other in (whole, list(row), tuple(whole), collections.deque(row), map(float, whole), array.array('d', row), array.array('h', whole), array.array('q', whole), memoryview(array.array('d', row)),
+                  memoryview(array.array('i', whole)), view, frozen, square, memoryview(before).cast('f'), memoryview(row[::-1])[::-1], of_c, (ctypes.c_double * 512)(*row), (ctypes.c_short * 512)(*whole)):
+        holds(f'a {type(other).__name__} of the same numbers is heard alike', mqarbset.hear(17, 2, 6, other) == wanted)
+    holds('so is a range', mqarbset.hear(17, 2, 6, range(-300, 300)) == mqarbset.hear(17, 2, 6, list(range(-300, 300))) is not None)
+    place = row.buffer_info()[0]
+    for same in (row, view, square):
+        holds('an array of floats is lent as it lies', lent(same) == (place, 512))
+    holds('so is one of ctypes', lent(of_c) == (ctypes.addressof(of_c), 512))
+    longer = row + row
+    holds('and a part in one piece', lent(memoryview(longer)[6:]) == (longer.buffer_info()[0] + 6 * 4, 1018))
+    holds('what is read-only is lent as a copy', lent(frozen)[0] != place and lent(frozen)[1] == 512)
+    holds('nothing is written', bytes(row) == bytes(of_c) == before)
+    for again in (view, square, frozen):
+        again.release()
+    row.append(0.0)  # which an array refuses to do as long as somebody holds its memory
+    try:
+        mqarbset.hear(17, 1, 8, row)
+    except Refused as refused:
+        holds('513 numbers are refused with 11', refused.number == 11)
+        row.extend(row[:511])
+    holds('a refusal holds no row either', mqarbset.hear(17, 1, 8, row) is not None)
+    for wrong in (None, 5, 1.5, 'a text', '0' * 1024, b'bytes', bytes(1024), bytearray(1024), ctypes.c_float(5), object()):
+        holds(f'a row of {wrong!r} is named', str(raised(TypeError, mqarbset.hear, 17, 1, 8, wrong)) == f'row must be numbers, not {type(wrong).__name__}')
+    for wrong in (None, '5', b'5', 5j, [5], (5, 5)):
+        for at in (0, 1023):
+            numbers = [5] * 1024
+            numbers[at] = wrong
+            holds(f'a number of {wrong!r} is named', str(raised(TypeError, mqarbset.hear, 17, 1, 8, numbers)) == f'row must be numbers, not {type(wrong).__name__}')
+    for i, name in enumerate(('cell', 'burst', 'count')):
+        for wrong in (1.0, '1', None, b'1'):
+            passed = [17, 1, 8, [0] * 1024]
+            passed[i] = wrong
+            holds(f'hear names {name}', str(raised(TypeError, mqarbset.hear, *passed)).startswith(f'{name} must be a whole number'))
+
+
 def users():
     """Which users each count permits, in a question and in a seat; and their chips, which are the same under every count."""
     for burst, full, count, permitted in ((1, 16, 16, range(1, 17)), (3, 16, 8, range(1, 9)), (1, 16, 4, (1, 3, 5, 7)), (2, 6, 6, range(1, 7)), (2, 6, 3, (1, 2, 3))):
@@ -289,6 +396,6 @@ def found():
 
 
 if __name__ == '__main__':
-    for part in (arguments, users, defaults, blocks, floats, summaries, books, pickles, threads, found):
+    for part in (arguments, users, defaults, blocks, floats, hearing, heard_rows, summaries, books, pickles, threads, found):
         part()
     print(f'python: {tried} things tried of the module, all as it says')

@@ -32,6 +32,7 @@ static void block(void)
 }
 static void pair(void) { kept = (uint32_t)mq_pair(127, 1, 16, 16, 512, MQ_LEVEL_LIMIT).re; }
 static void pairs(void) { kept = mq_pairs(127, 1, 16, 16, MQ_LEVEL_LIMIT, floats, MQ_LONG_PAIRS).value; }
+static void hear(void) { kept = mq_hear(127, 1, 16, floats, MQ_LONG_PAIRS).user; }
 static void parts(void) { kept = mq_parts(1, MQ_UP, 8, 16, 2).start[6]; }
 static void at(void) { kept = mq_at(1, MQ_UP, 8, 16, 2, 1500).number; }
 static void beacon(void) { kept = mq_beacon(2, 6).second; }
@@ -53,8 +54,8 @@ static void closed(void) { kept = mq_close(&book, 3); }
 
 static const struct { const char *name; void (*call)(void); } calls[] = {
     {"mq_version", version}, {"mq_book_bytes", book_bytes}, {"mq_refusal_text", refusal_text}, {"mq_refusal_string", refusal_string},
-    {"mq_midamble_chip", midamble_chip}, {"mq_midamble", midamble}, {"mq_block_start", block_start}, {"mq_block", block}, {"mq_pair", pair}, {"mq_pairs", pairs}, {"mq_parts", parts}, {"mq_at", at},
-    {"mq_beacon", beacon},
+    {"mq_midamble_chip", midamble_chip}, {"mq_midamble", midamble}, {"mq_block_start", block_start}, {"mq_block", block}, {"mq_pair", pair}, {"mq_pairs", pairs}, {"mq_hear", hear},
+    {"mq_parts", parts}, {"mq_at", at}, {"mq_beacon", beacon},
     {"mq_indicator", indicator}, {"mq_owner", owner}, {"mq_page", page}, {"mq_read_page", read_page}, {"mq_empty_book", empty_book},
     {"mq_open", opened}, {"mq_book_code", booked}, {"mq_list", listed}, {"mq_summary", summary}, {"mq_cancel", cancelled}, {"mq_close", closed},
 };

@@ -1,4 +1,4 @@
-/* A lesson over the C interface: a midamble, whole and by the block, its chips for the signal card, the parts of a timeslot, the class book and what is kept of it, and refusals with their words.
+/* A lesson over the C interface: a midamble, whole and by the block, its chips for the signal card, who is on the air, the parts of a timeslot, the class book and what is kept of it, and refusals with their words.
  *   cc -std=c99 -Iinclude examples/lesson.c target/staticlib/libmqarbset.a -o lesson */
 #include <mqarbset.h>
 #include <stdio.h>
@@ -70,6 +70,39 @@ static void signal_card(void)
         printf(" %g", row[i]);
     printf("\n");
     refused("level 2048", mq_pairs(0, 1, 8, 8, MQ_LEVEL_LIMIT + 1, row, MQ_LONG_PAIRS).refusal);
+}
+
+static void heard(const char *what, mq_hear_answer answer)
+{
+    if (answer.refusal != 0)
+        refused(what, answer.refusal);
+    else if (answer.user == MQ_NOBODY)
+        printf("%s: nobody\n", what);
+    else
+        printf("%s: user %u, with %.0f and %.0f\n", what, (unsigned)answer.user, answer.re, answer.im);
+}
+
+/* What the card of user 8 sends is received, alone and with that of user 3; then nothing is, and what no card receives. */
+static void on_the_air(void)
+{
+    float row[MQ_LONG_PAIRS], other[MQ_LONG_PAIRS];
+    mq_answer sent = mq_pairs(0, 1, 8, 8, 1000, row, MQ_LONG_PAIRS);
+    mq_answer besides = mq_pairs(0, 1, 8, 3, 400, other, MQ_LONG_PAIRS);
+    size_t i;
+    if (sent.refusal != 0 || besides.refusal != 0) {
+        refused("on the air", sent.refusal != 0 ? sent.refusal : besides.refusal);
+        return;
+    }
+    heard("user 8 at level 1000 is heard", mq_hear(0, 1, 8, row, MQ_LONG_PAIRS));
+    for (i = 0; i < MQ_LONG_PAIRS; i++)
+        row[i] += other[i];
+    heard("and with user 3 at level 400 besides", mq_hear(0, 1, 8, row, MQ_LONG_PAIRS));
+    for (i = 0; i < MQ_LONG_PAIRS; i++)
+        row[i] = 0;
+    heard("in silence", mq_hear(0, 1, 8, row, MQ_LONG_PAIRS));
+    row[0] = MQ_SAMPLE_LIMIT + 1;
+    heard("a sample of 2048", mq_hear(0, 1, 8, row, MQ_LONG_PAIRS));
+    heard("no row at all", mq_hear(0, 1, 8, NULL, 0));
 }
 
 static void timeslot(void)
@@ -219,6 +252,7 @@ int main(void)
     midamble();
     blocks();
     signal_card();
+    on_the_air();
     timeslot();
     paging();
     class_book();

@@ -1,4 +1,4 @@
-"""A lesson over the Python module: a midamble, whole and by the block, its chips for the signal card, the parts of a timeslot, the class book, and refusals with their words.
+"""A lesson over the Python module: a midamble, whole and by the block, its chips for the signal card, who is on the air, the parts of a timeslot, the class book, and refusals with their words.
 
     PYTHONPATH=python python3 examples/lesson.py      after examples/run, which builds the library
 """
@@ -55,6 +55,14 @@ def questions():
     tried('chip 4 for the signal card at level 1000', mqarbset.pair, 0, 1, 8, 8, 4, 1000)
     tried('the first four chips at level 1000', lambda: mqarbset.pairs(0, 1, 8, 8, 1000)[:8])
     tried('level 2048', mqarbset.pairs, 0, 1, 8, 8, 2048)
+
+    row = mqarbset.pairs(0, 1, 8, 8, 1000)
+    tried('user 8 at level 1000 is heard', mqarbset.hear, 0, 1, 8, row)
+    both = [one + other for one, other in zip(row, mqarbset.pairs(0, 1, 8, 3, 400))]
+    tried('and with user 3 at level 400 besides', mqarbset.hear, 0, 1, 8, both)
+    tried('in silence', mqarbset.hear, 0, 1, 8, [0] * 1024)
+    tried('a sample of 2048', mqarbset.hear, 0, 1, 8, [2048] + [0] * 1023)
+    tried('a sample that is almost 5', mqarbset.hear, 0, 1, 8, [5.00000001] + [0] * 1023)
 
     print('uplink type 1, factor 8, TFCI 16, TPC 2:')
     parts = mqarbset.parts(1, UP, 8, 16, 2)

@@ -1,5 +1,5 @@
-/* mqarbset: midambles, whole and by the block, chips for the signal card, timeslot parts, beacon timeslots, paging bits and the class book of the
- * 3.84 Mcps option of 3GPP TS 25.221.
+/* mqarbset: midambles, whole and by the block, chips for the signal card, who is on the air, timeslot parts, beacon timeslots, paging bits and the
+ * class book of the 3.84 Mcps option of 3GPP TS 25.221.
  *
  * Every call here is proved against its definition (crates/mqarbset): for all numbers, all bytes and all lengths of lent memory it answers as
  * documents 01 and 02 say, or refuses with their number, and a refused call leaves the book and all lent memory as they
@@ -38,9 +38,9 @@ extern "C" {
 /* ---- version ---------------------------------------------------------------------------------------------------------------------------- */
 
 #define MQ_VERSION_MAJOR 0
-#define MQ_VERSION_MINOR 8
+#define MQ_VERSION_MINOR 9
 #define MQ_VERSION_PATCH 0
-#define MQ_VERSION 800          /* major times 10000, minor times 100, patch */
+#define MQ_VERSION 900          /* major times 10000, minor times 100, patch */
 #define MQ_ABI 2                /* libmqarbset.so.MQ_ABI; it changes when the book's size or a call that is there does; a new call alone does not move it */
 
 /* The library that runs, beside the header that a program was compiled with: MQ_VERSION there, and the bytes of a book there. A program that is
@@ -59,6 +59,7 @@ MQ_MUST_USE uint32_t mq_book_bytes(void);
 #define MQ_LONG_PAIRS 1024      /* floats of a midamble's chips as pairs, types 1 and 3 */
 #define MQ_SHORT_PAIRS 512      /* and type 2 */
 #define MQ_LEVEL_LIMIT 2047     /* the highest level of a chip; the lowest is 1 */
+#define MQ_SAMPLE_LIMIT 2047    /* the highest sample that is received; the lowest is -2047 */
 #define MQ_PARTS 7              /* parts of a timeslot */
 #define MQ_PAGE_BITS_1 244      /* paging bits of a burst, type 1: 240 carrying and 4 reserved */
 #define MQ_PAGE_BITS_2 276      /* and type 2: 272 and 4 */
@@ -76,6 +77,9 @@ MQ_MUST_USE uint32_t mq_book_bytes(void);
 #define MQ_UP 0
 #define MQ_DOWN 1
 #define MQ_NO_DIRECTION 2       /* in a summary only: there is no booking */
+
+/* The user that is heard where there is none. */
+#define MQ_NOBODY 0
 
 /* The parts of a timeslot, in time order. */
 enum mq_part {
@@ -97,7 +101,7 @@ enum mq_reading {
 
 /* ---- refusals --------------------------------------------------------------------------------------------------------------------------- */
 
-/* Each with its words, document 01's but for 3, 4, 16, 22 and 23, as mq_refusal_text gives them; what this interface adds stands behind a bar. */
+/* Each with its words, document 01's but for 3, 4, 16 and 22 to 24, as mq_refusal_text gives them; what this interface adds stands behind a bar. */
 enum mq_refusal {
     MQ_REFUSED_NONE = 0,
     MQ_REFUSED_CELL = 1,        /* cell parameter above 127 */
@@ -125,7 +129,8 @@ enum mq_refusal {
     MQ_REFUSED_ROOM = 20,       /* common room used up */
     MQ_REFUSED_NONE_SUCH = 21,  /* no such booking */
     MQ_REFUSED_LEVEL = 22,      /* level not 1 to 2047 */
-    MQ_REFUSED_PLACE = 23       /* place above the midamble length */
+    MQ_REFUSED_PLACE = 23,      /* place above the midamble length */
+    MQ_REFUSED_SAMPLE = 24      /* sample not a whole number from -2047 to 2047 */
 };
 
 /* A number as an answer: the refusal, or 0; and the value. */
@@ -234,6 +239,27 @@ MQ_MUST_USE mq_pair_answer mq_pair(uint32_t cell, uint32_t burst, uint32_t count
  *   out      `length` floats, at least MQ_LONG_PAIRS, or MQ_SHORT_PAIRS for type 2; further floats stay as they were, to the bit
  * Value: how many floats were written, 1024 or 512. Refusals: 1, 2, 3, 4, 11, 22. Stack: 10 KB. */
 MQ_MUST_USE mq_answer mq_pairs(uint32_t cell, uint32_t burst, uint32_t count, uint32_t user, uint32_t level, float *out, size_t length);
+
+/* ---- who is on the air ------------------------------------------------------------------------------------------------------------------ */
+
+/* The user that is heard, and the two sums of that user: each received pair is multiplied by the conjugate of the user's chip, and all are added
+ * up, the real parts and the imaginary parts. Both are whole numbers, nothing is rounded, and zero is plain zero, never minus zero; for nobody,
+ * and refused, both are zero. */
+typedef struct mq_hear_answer {
+    uint32_t refusal;
+    uint32_t user;              /* MQ_NOBODY where both sums of every user that the count permits are zero */
+    float re;
+    float im;
+} mq_hear_answer;
+
+/* Who is on the air: of the users that the count permits the one whose re * re + im * im is the greatest, and of several with the same the lowest.
+ *   row      `length` floats, at least MQ_LONG_PAIRS, or MQ_SHORT_PAIRS for type 2: what was received at each chip of a midamble, real part then
+ *            imaginary part, chip after chip from chip 1 on. Each is a whole number from -MQ_SAMPLE_LIMIT to MQ_SAMPLE_LIMIT, and minus zero
+ *            reads as zero; a fraction, an infinity, or what is not a number is refused with 24. Further floats are not read, and no float is
+ *            written; the others as for mq_midamble_chip
+ * A clean copy of a user's midamble at a level, as mq_pairs fills it, gives that user 512 times the level (type 2: 256 times) and zero.
+ * Refusals: 1, 2, 3, 11, 24. Stack: 16 KB. */
+MQ_MUST_USE mq_hear_answer mq_hear(uint32_t cell, uint32_t burst, uint32_t count, const float *row, size_t length);
 
 /* ---- timeslots -------------------------------------------------------------------------------------------------------------------------- */
 

@@ -1,12 +1,12 @@
-"""mqarbset for Python: midambles, whole and by the block, chips for the signal card, timeslot parts, beacon
-timeslots, paging bits and the class book of the 3.84 Mcps option of 3GPP TS 25.221.
+"""mqarbset for Python: midambles, whole and by the block, chips for the signal card, who is on the air, timeslot
+parts, beacon timeslots, paging bits and the class book of the 3.84 Mcps option of 3GPP TS 25.221.
 
 Over the C interface (include/mqarbset.h), with ctypes of the standard library only. A call that is
 refused raises Refused, which has the refusal's number and words; the book is then as it was. Whole
 numbers of any size may be handed in, and the library refuses what it must; what is no whole number,
-or no bytes where bytes are expected, is a TypeError that names the parameter, and a negative length of
-a block, or blocks of length 0, a ValueError. The library does all
-the work and is proved; this module is not.
+or no bytes or no numbers where these are expected, is a TypeError that names the parameter, and a
+negative length of a block, or blocks of length 0, a ValueError. The library does all the work and is
+proved; this module is not.
 
 The shared library is the one that MQARBSET_LIBRARY names, or the one that install.sh installed with
 this file, or, in a checkout, the one that examples/run built; no other is looked for.
@@ -14,17 +14,19 @@ this file, or, in a checkout, the one that examples/run built; no other is looke
 import array
 import ctypes
 import enum
+import math
 import operator
 import os
 import pathlib
 import threading
-from typing import Dict, List, NamedTuple, Optional, Tuple
+from typing import Dict, Iterable, List, NamedTuple, Optional, Tuple
 
 __all__ = [
-    'UP', 'DOWN', 'OFF', 'ON', 'TORN', 'Part', 'Span', 'Parts', 'Place', 'Indicator', 'Booking', 'Summary', 'Book', 'Blocks', 'BlockPlace',
-    'Refused', 'refusal_text', 'midamble_chip', 'midamble', 'blocks', 'pair', 'pairs', 'parts', 'at', 'beacon', 'indicator', 'owner', 'page', 'read_page',
+    'UP', 'DOWN', 'OFF', 'ON', 'TORN', 'Part', 'Span', 'Parts', 'Place', 'Indicator', 'Booking', 'Summary', 'Book', 'Blocks', 'BlockPlace', 'Heard',
+    'Refused', 'refusal_text', 'midamble_chip', 'midamble', 'blocks', 'pair', 'pairs', 'hear', 'parts', 'at', 'beacon', 'indicator', 'owner', 'page',
+    'read_page',
 ]
-__version__ = '0.8.0'
+__version__ = '0.9.0'
 
 UP, DOWN = 0, 1
 OFF, ON, TORN = 0, 1, 2
@@ -91,6 +93,14 @@ class BlockPlace(NamedTuple):
     written: int
 
 
+class Heard(NamedTuple):
+    """Who is on the air: the user, and the two sums of that user, real and imaginary part; both are whole numbers,
+    and zero is never -0.0."""
+    user: int
+    re: float
+    im: float
+
+
 class Indicator(NamedTuple):
     """Where an indicator sits: its frame, its number q there, and `length` carrying bits from `first`
     and from `second`; all count from 0."""
@@ -142,6 +152,7 @@ _BlockPlace = _numbers('_BlockPlace', *BlockPlace._fields)
 _BlockStart = _struct('_BlockStart', ('refusal', ctypes.c_uint32), ('place', _BlockPlace))
 _Block = _struct('_Block', ('refusal', ctypes.c_uint32), ('written', ctypes.c_uint32), ('place', _BlockPlace))
 _PairAnswer = _struct('_PairAnswer', ('refusal', ctypes.c_uint32), ('re', ctypes.c_float), ('im', ctypes.c_float))
+_HearAnswer = _struct('_HearAnswer', ('refusal', ctypes.c_uint32), ('user', ctypes.c_uint32), ('re', ctypes.c_float), ('im', ctypes.c_float))
 _PartsAnswer = _struct('_PartsAnswer', ('refusal', ctypes.c_uint32), ('start', ctypes.c_uint32 * 7),
                        ('length', ctypes.c_uint32 * 7), ('bits', ctypes.c_uint32 * 2))
 _Place = _numbers('_Place', 'refusal', 'part', 'number')
@@ -162,6 +173,7 @@ _CALLS = {
     'mq_block_value': ('pm', _Block),
     'mq_pair': ('uuuuuu', _PairAnswer),
     'mq_pairs': ('uuuuuf', _Answer),
+    'mq_hear': ('uuuf', _HearAnswer),
     'mq_parts': ('uuuuu', _PartsAnswer),
     'mq_at': ('uuuuuu', _Place),
     'mq_beacon': ('uu', _Beacons),
@@ -179,6 +191,7 @@ _CALLS = {
 }
 _TYPES = {'u': [ctypes.c_uint32], 'm': [ctypes.c_char_p, ctypes.c_size_t],
           'f': [ctypes.POINTER(ctypes.c_float), ctypes.c_size_t], 'b': [_Book], 'p': [_BlockPlace]}
+_FLOATS = ('f', '@f', '=f', '<f')  # how a buffer may name the floats that the library takes
 
 
 def _path() -> str:
@@ -217,9 +230,8 @@ _library = _loaded()
 class _Lent:
     """Memory that is lent to a call: to read, or room to write in."""
 
-    def __init__(self, buffer, size, kind=ctypes.c_char_p):
-        self.kept = buffer  # alive as long as its address is in use
-        self.passed = [ctypes.cast(buffer, kind), size]
+    def __init__(self, buffer, size):
+        self.passed = [buffer, size]
 
 
 def _whole(name, value):
@@ -259,12 +271,59 @@ def _bytes(name, value):
     return _Lent(held, len(held))
 
 
-def _call(call, *first, **numbers):
-    """The answer's fields, or Refused. A book or a place goes first; what is named is a number, or lent memory."""
+def _float(name, value):
+    """A number as a float of C. One that no such float equals goes as not a number: it is never rounded."""
+    try:
+        nearest = ctypes.c_float(value).value
+    except OverflowError:
+        return math.nan
+    except TypeError:
+        raise TypeError(f'{name} must be numbers, not {type(value).__name__}') from None
+    return nearest if nearest == value else math.nan
+
+
+def _row(name, value):
+    """The numbers of a row; text and bytes are none."""
+    try:
+        if not isinstance(value, (str, bytes, bytearray)):
+            return list(value)
+    except TypeError:
+        pass
+    raise TypeError(f'{name} must be numbers, not {type(value).__name__}')
+
+
+def _buffer(value):
+    """The memory of an array of floats; None for what is no such array."""
+    try:
+        view = memoryview(value)
+    except TypeError:
+        return None
+    return view if view.format in _FLOATS and view.ndim > 0 and view.c_contiguous else None
+
+
+def _floats(name, value):
+    """A row of floats to read: the memory of an array of floats itself, or a copy of it where it is read-only; any
+    other row of numbers is made such an array."""
+    view = _buffer(value)
+    if view is None:
+        view = memoryview(array.array('f', [_float(name, number) for number in _row(name, value)]))
+    size = view.nbytes // view.itemsize
+    row = ctypes.c_float * size
+    return _Lent(row.from_buffer_copy(view) if view.readonly else row.from_buffer(view), size)
+
+
+def _answered(call, first, numbers):
+    """What the library answers to a call."""
     passed = list(first)
     for name, value in numbers.items():
         passed += value.passed if isinstance(value, _Lent) else [_number(name, value)]
-    answer = getattr(_library, call)(*passed)
+    return getattr(_library, call)(*passed)
+
+
+def _call(call, *first, **numbers):
+    """The answer's fields, or Refused. A book or a place goes first; what is named is a number, or lent memory."""
+    answer = _answered(call, first, numbers)
+    numbers.clear()  # who keeps the refusal does not keep the lent memory
     if answer.refusal:
         raise Refused(answer.refusal)
     return answer
@@ -368,9 +427,24 @@ def pairs(cell: int, burst: int, count: int, user: int, level: int) -> 'array.ar
     level as for pair; the others as for midamble. Refused with 1, 2, 3, 4, 22.
     """
     out = (ctypes.c_float * _LONG_PAIRS)()
-    lent = _Lent(out, _LONG_PAIRS, ctypes.POINTER(ctypes.c_float))
+    lent = _Lent(out, _LONG_PAIRS)
     written = _call('mq_pairs', cell=cell, burst=burst, count=count, user=user, level=level, out=lent).value
     return array.array('f', bytes(out)[:written * ctypes.sizeof(ctypes.c_float)])
+
+
+def hear(cell: int, burst: int, count: int, row: Iterable[float]) -> Optional[Heard]:
+    """Who is on the air: of the users that the count permits the one that is heard best, the lowest of several that
+    are heard alike; None for nobody, where both sums of every user are zero.
+
+    row has what was received at each chip of a midamble, real part then imaginary part, chip after chip: at least
+    1024 numbers, or 512 for type 2, each whole and from -2047 to 2047; -0.0 reads as 0, and further numbers are not
+    read. An array of floats (of the type code 'f', or any other C-contiguous buffer of the format 'f') is lent
+    itself, without a copy unless it is read-only, and nobody may write it meanwhile. Of any other row a row of
+    floats is made, and a number that is no such float, as 5.00000001 is none, is not rounded to one, but refused
+    with 24. cell, burst and count as for midamble. Refused with 1, 2, 3, 11, 24.
+    """
+    a = _call('mq_hear', cell=cell, burst=burst, count=count, row=_floats('row', row))
+    return Heard(a.user, a.re, a.im) if a.user else None
 
 
 def parts(burst: int, direction: int, factor: int, tfci: int = 0, tpc: int = 0) -> Parts:

@@ -63,6 +63,24 @@ impl PartialEq for MqPair {
     }
 }
 
+/// Who is on the air. Two are the same where their bits are.
+#[repr(C)]
+#[derive(Clone, Copy, Debug, Default)]
+pub struct MqHear {
+    pub refusal: u32,
+    pub user: u32,
+    pub re: f32,
+    pub im: f32,
+}
+
+impl PartialEq for MqHear {
+    fn eq(&self, other: &MqHear) -> bool {
+        let bits =
+            |heard: &MqHear| (heard.refusal, heard.user, heard.re.to_bits(), heard.im.to_bits());
+        bits(self) == bits(other)
+    }
+}
+
 #[repr(C)]
 #[derive(Clone, Copy, Debug, Default, PartialEq, Eq)]
 pub struct MqParts {

@@ -2,23 +2,25 @@
 //! and lent memory are compared whole; where they differ, the run ends with exit 1. The calls of the class book are in
 //! bookings.rs.
 
-use library::{MqAnswer, MqBeacons, MqBlock, MqBlockPlace, MqBlockStart, MqBook};
+use library::{MqAnswer, MqBeacons, MqBlock, MqBlockPlace, MqBlockStart, MqBook, MqHear};
 use library::{MqIndicator, MqOwner, MqPair, MqParts, MqPlace};
 use second::beacons::beacon_timeslots;
 use second::blocks::{self, Place};
 use second::book::Book;
+use second::hearing::{self, Heard};
 use second::refusals::Answer;
 use second::rows::Rows;
 use second::timeslots::{self, Direction, Label, Question, Timeslot};
 use second::{midambles, paging, signal_card};
 use std::fmt::Debug;
+use std::hint::black_box;
 use std::process::exit;
 
 /// How many calls were compared, and how often each refusal came; place 0 is for calls that were answered.
 #[derive(Clone, Default)]
 pub struct Tally {
     pub calls: u64,
-    pub by_refusal: [u64; 24],
+    pub by_refusal: [u64; 25],
 }
 
 impl Tally {
@@ -147,6 +149,23 @@ fn held(place: Place) -> MqBlockPlace {
     MqBlockPlace { cell, burst: burst_type, count, user, written }
 }
 
+/// A float as the whole number that it is; nothing for a fraction, an infinity and a NaN. One beyond 64 bits becomes the
+/// nearest that is not, which is as little a sample.
+fn whole(float: f32) -> Option<i64> {
+    (float.fract() == 0.0).then_some(float as i64)
+}
+
+/// Who is heard, as the library answers it.
+fn heard(answer: Answer<Heard>) -> MqHear {
+    match answer {
+        Ok(Heard::Nobody) => MqHear::default(),
+        Ok(Heard::User { user, re, im }) => {
+            MqHear { refusal: 0, user, re: re as f32, im: im as f32 }
+        }
+        Err(refusal) => MqHear { refusal, ..MqHear::default() },
+    }
+}
+
 fn parts(answer: &Answer<Timeslot>) -> MqParts {
     let mut wanted = MqParts { refusal: number(answer), ..MqParts::default() };
     if let Ok(slot) = answer {
@@ -271,6 +290,23 @@ impl<'a> Beside<'a> {
         expect_floats(call, &row, &expected);
         self.count(number(&wanted));
         wanted.map(|_| expected)
+    }
+
+    // ---- who is on the air
+
+    /// `what` names the row, for the message of a difference. It is only read: every float stays, to the bit.
+    pub fn hear(&mut self, what: &str, numbers: [u32; 3], row: &[f32]) {
+        let [cell, burst, count] = numbers;
+        let lent = row.to_vec();
+        let answer = library::hear(cell, burst, count, &lent);
+        // The compiler takes it that nobody writes a shared slice: behind this it reads the row again.
+        let lent = black_box(lent);
+        let samples: Vec<Option<i64>> = row.iter().map(|float| whole(*float)).collect();
+        let wanted = heard(hearing::hear(self.rows, cell, burst, count, &samples));
+        let call = (what, &[cell, burst, count, row.len() as u32][..]);
+        expect(call, "answer", answer, wanted);
+        expect_floats(call, &lent, row);
+        self.count(wanted.refusal);
     }
 
     // ---- timeslots and beacons

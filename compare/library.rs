@@ -43,6 +43,8 @@ mod c {
             out: *mut f32,
             length: usize,
         ) -> MqAnswer;
+        pub fn mq_hear(cell: u32, burst: u32, count: u32, row: *const f32, length: usize)
+            -> MqHear;
         pub fn mq_parts(burst: u32, direction: u32, factor: u32, tfci: u32, tpc: u32) -> MqParts;
         pub fn mq_at(
             burst: u32,
@@ -147,6 +149,11 @@ pub fn pairs(
     out: &mut [f32],
 ) -> MqAnswer {
     unsafe { c::mq_pairs(cell, burst, count, user, level, out.as_mut_ptr(), out.len()) }
+}
+
+#[inline]
+pub fn hear(cell: u32, burst: u32, count: u32, row: &[f32]) -> MqHear {
+    unsafe { c::mq_hear(cell, burst, count, row.as_ptr(), row.len()) }
 }
 
 #[inline]

@@ -4,6 +4,7 @@
 //! `compare/run` builds and runs it: `every` puts every question of docs/COMPARISON.md, `random` seeded random lessons;
 //! without a word it does both.
 
+mod air;
 mod beside;
 mod bookings;
 mod damage;
@@ -26,7 +27,7 @@ fn words() {
         let mut out = [0; 400];
         let answer = library::refusal_text(number, &mut out);
         let said = String::from_utf8_lossy(&out[..answer.value as usize]);
-        let wanted = if (1..=23).contains(&number) { condition(number) } else { "" };
+        let wanted = if (1..=24).contains(&number) { condition(number) } else { "" };
         if said != wanted {
             fail(&format!("the words of refusal {number} are {said:?}"));
         }
@@ -35,7 +36,7 @@ fn words() {
 
 /// The refusals of these that never came.
 fn missing(tally: &Tally) -> Vec<usize> {
-    (0..=23).filter(|number| tally.by_refusal[*number] == 0).collect()
+    (0..=24).filter(|number| tally.by_refusal[*number] == 0).collect()
 }
 
 fn every(rows: &Rows) {

@@ -1,8 +1,10 @@
 //! Random lessons (`second random`) over C: reply, book and every lent byte, as the model has them. Lent memory has
 //! every length around the needed one. Now and then the same call is made on a damaged copy of the book, and with a
 //! direction that is neither. After every call of the class book the summary of its seat and timeslot is compared, and
-//! after every few calls all sixteen plans are listed and summed up on both sides.
+//! after every few calls all sixteen plans are listed and summed up on both sides. Between the calls it is asked who is
+//! on the air, in random rows.
 
+use crate::air::{add_noise, bad_samples, lent_as, received, Cell};
 use crate::beside::{direction_number, Beside, Tally};
 use crate::bookings::numbers_of;
 use crate::damage;
@@ -12,6 +14,7 @@ use second::book::Record;
 use second::calls::{self, Call};
 use second::dice::Dice;
 use second::lesson::LONGEST_LINE;
+use second::midambles::family;
 use second::random::Writer;
 use second::rows::Rows;
 
@@ -56,6 +59,9 @@ impl Lesson<'_> {
             self.call(&call);
             if line_number % 64 == 63 {
                 self.plans();
+            }
+            if self.dice.one_in(20) {
+                self.hear();
             }
         }
     }
@@ -192,6 +198,38 @@ impl Lesson<'_> {
             let left = end.saturating_sub(place.written) as usize;
             room = if self.dice.one_in(2) { self.around(left.max(1)) } else { self.dice.place(80) };
         }
+    }
+
+    /// Up to three users, permitted or not, with noise or without, and a few samples besides. Now and then a sample is
+    /// bad, or a number wrong.
+    fn hear(&mut self) {
+        let dice = &mut self.dice;
+        let burst = dice.between(1, 3);
+        let cell = Cell::new([dice.below(128), burst, dice.pick(family(burst).counts)]);
+        let mut air = cell.silence();
+        for _ in 0..dice.below(4) {
+            let user = cell.anybody(dice);
+            cell.add(&mut air, user, dice.below(4), dice.between(1, 900) as i32);
+        }
+        if dice.one_in(2) {
+            let most = dice.pick(&[1, 1, 20, 300, 2047]);
+            add_noise(dice, &mut air, most);
+        }
+        for _ in 0..dice.below(4) {
+            let place = dice.place(air.len());
+            air[place] += dice.pick(&[-1, 1, 1]);
+        }
+        let row = received(dice, &air);
+        let mut numbers = cell.numbers;
+        if dice.one_in(8) {
+            numbers[dice.place(3)] = dice.pick(&[0, 1, 2, 3, 4, 5, 6, 8, 16, 17, 128, u32::MAX]);
+        }
+        let room = self.around(row.len());
+        let mut lent = lent_as(&row, room);
+        if room > 0 && self.dice.one_in(6) {
+            lent[self.dice.place(room)] = self.dice.pick(&bad_samples());
+        }
+        self.both.hear("hear a random row", numbers, &lent);
     }
 
     /// A byte other than 0 is on, or 1: some are made other bytes.

@@ -3,6 +3,7 @@
 mod before;
 mod blocks;
 mod book;
+mod hearing;
 mod midambles;
 mod paging;
 mod signal_card;
@@ -19,6 +20,7 @@ pub fn run(rows: &Rows) -> Tally {
     midambles::run(both);
     blocks::run(both);
     signal_card::run(both);
+    hearing::run(both);
     timeslots::run(both);
     paging::run(both);
     before::run(both);

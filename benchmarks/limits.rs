@@ -1,4 +1,5 @@
-//! What a run asks of the library, in times of plain Rust or of another call of its own; it fails where more is taken.
+//! What a run asks of the library, in times of plain Rust, of another call of its own or of volk; it fails where more is
+//! taken.
 
 pub struct Limit {
     pub what: &'static str,
@@ -39,10 +40,25 @@ pub const PAIRS_BY_DIGITS: Limit = Limit {
     of: PLAIN,
     times: 1.5,
 };
+pub const HEAR: Limit = Limit { what: "hearing a row", of: PLAIN, times: 1.5 };
 pub const PAGE: Limit = Limit { what: "a page", of: PLAIN, times: 1.5 };
 pub const EMPTY_BOOK: Limit = Limit { what: "an empty book over C", of: PLAIN, times: 1.5 };
 pub const SUMMARY: Limit = Limit { what: "asking a summary over C", of: PLAIN, times: 1.5 };
 pub const BOOKING: Limit = Limit { what: "a booking inside the library", of: PLAIN, times: 1.5 };
+#[cfg(volk)]
+const VOLK: &str = "volk's sixteen dot products";
+#[cfg(volk)]
+pub const SUMS_BESIDE_VOLK: Limit = Limit {
+    what: "making the sums of sixteen users of a long code (less what is prepared once)",
+    of: VOLK,
+    times: 1.0,
+};
+#[cfg(volk)]
+pub const HEAR_BESIDE_VOLK: Limit = Limit {
+    what: "hearing a row of sixteen users of a long code (with all its tests)",
+    of: VOLK,
+    times: 1.5,
+};
 
 impl Limit {
     /// Says whether the limit holds, for the largest of these ratios.

@@ -1,17 +1,19 @@
-//! Every call of the built static library over C, beside plain Rust doing the same work, in one run; and how a
-//! booking's cost grows.
+//! Every call of the built static library over C, beside plain Rust doing the same work, in one run; hearing beside volk
+//! besides; and how a booking's cost grows.
 //!
 //! First both sides must give the same answers and the same memory, refused calls included. Then they take turns in
 //! rounds over the same inputs, and the best round of each is kept. Midambles by the block stand beside the library's
 //! midambles in one call, too. The run fails where both sides differ, and where a limit of limits.rs does not hold.
 //!
-//! `benchmarks/run` builds and runs this; with the word `growth` the growth alone. Standard library only.
+//! `benchmarks/run` builds and runs this; with the word `volk` what stands beside volk alone, with `growth` the growth.
+//! Standard library only, and volk where benchmarks/run can link it (cfg volk).
 
 mod blocks;
 mod book;
 mod copies;
 mod dice;
 mod growth;
+mod hearing;
 mod limits;
 mod midambles;
 mod paging;
@@ -21,6 +23,8 @@ mod rows;
 mod signal_card;
 mod table;
 mod timeslots;
+#[cfg(volk)]
+mod volk;
 
 use copies::{TableCopy, LONG_COPY, LONG_OWN, SHORT_COPY, SHORT_OWN};
 use limits::Limit;
@@ -37,15 +41,17 @@ fn notes(lines: &[table::Line]) {
     println!("(**) for information, less the same copy: plain Rust that makes the floats of all sixteen digits at the level first");
     let (long, short) = (best(&LONG_OWN), best(&SHORT_OWN));
     println!("(***) less the copy that the library itself makes of the row table, one for each block: {long}, {short}, in this run, taken as what a block of one chip costs beyond plain Rust's, which is rather too much than too little; a midamble in blocks of 64 has 8 of them (type 2: 4), beside the whole one in one call, of which nothing is taken off");
+    println!("(****) for information: plain Rust that makes the sums of four users at once");
 }
 
 /// The tables of all calls; whether their limits hold.
 fn calls() -> bool {
     println!(
-        "library and plain Rust give equal answers and equal memory: {} calls of midambles, {} of blocks, {} of the signal card, {} of timeslots and beacons, {} of paging, {} of refusals' words, {} of the class book",
+        "library and plain Rust give equal answers and equal memory: {} calls of midambles, {} of blocks, {} of the signal card, {} of hearing, {} of timeslots and beacons, {} of paging, {} of refusals' words, {} of the class book",
         midambles::compare(),
         blocks::compare(),
         signal_card::compare(),
+        hearing::compare(),
         timeslots::compare(),
         paging::compare(),
         refusals::compare(),
@@ -55,6 +61,7 @@ fn calls() -> bool {
         midambles::lines(),
         blocks::lines(),
         signal_card::lines(),
+        hearing::lines(),
         timeslots::lines(),
         paging::lines(),
         refusals::lines(),
@@ -76,20 +83,32 @@ fn calls() -> bool {
     println!();
     table::print("midamble by the block (***)", ["blocks ns", "one call ns"], &lines[calls..]);
     notes(&lines);
-    let limits: [&Limit; 9] = [
+    let limits: [&Limit; 10] = [
         &limits::MIDAMBLE,
         &limits::MIDAMBLE_BY_DIGITS,
         &limits::BLOCK_BY_DIGITS,
         &limits::MIDAMBLE_IN_BLOCKS,
         &limits::PAIRS,
         &limits::PAIRS_BY_DIGITS,
+        &limits::HEAR,
         &limits::PAGE,
         &limits::EMPTY_BOOK,
         &limits::SUMMARY,
     ];
     let held =
         limits.map(|limit| limit.holds(lines.iter().filter_map(|line| line.ratio_of(limit))));
-    held == [true; 9]
+    held == [true; 10]
+}
+
+/// The table of hearing beside volk, where that is there; whether its limits hold.
+fn beside_volk() -> bool {
+    #[cfg(volk)]
+    return volk::run();
+    #[cfg(not(volk))]
+    {
+        println!("volk is not here: apt-get install libvolk-dev (Debian 12: libvolk2-dev); two lines are left out");
+        true
+    }
 }
 
 /// The table of the growth; whether its limit holds.
@@ -102,14 +121,17 @@ fn main() {
     let words: Vec<String> = std::env::args().skip(1).collect();
     let fine = match words.iter().map(String::as_str).collect::<Vec<_>>()[..] {
         [] => {
-            let fine = calls();
+            let calls = calls();
             println!();
-            bookings() && fine
+            let volk = beside_volk();
+            println!();
+            bookings() && calls && volk
         }
+        ["volk"] => beside_volk(),
         ["growth"] => bookings(),
         _ => {
             eprintln!(
-                "benchmarks/run: all calls and the growth; benchmarks/run growth: the growth alone"
+                "benchmarks/run: all calls, hearing beside volk, and the growth; benchmarks/run volk, benchmarks/run growth: one of them alone"
             );
             exit(2);
         }

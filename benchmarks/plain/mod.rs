@@ -4,6 +4,7 @@
 pub mod blocks;
 pub mod book;
 pub mod digits;
+pub mod hearing;
 pub mod midambles;
 pub mod paging;
 pub mod refusals;

@@ -2,6 +2,12 @@
 
 use crate::timeslots::Direction;
 
+/// The most samples that a line has.
+pub const MOST_SAMPLES: usize = 1100;
+
+/// The most digits of a sample.
+pub const MOST_DIGITS: usize = 6;
+
 /// A row of the table of docs/LESSONS.md.
 pub struct Form {
     pub call: &'static str,
@@ -9,8 +15,8 @@ pub struct Form {
 }
 
 /// The table. Reading a line goes by its first column: after the call's own word, `up|down` stands for a direction,
-/// SETTINGS and BITS for words of the digits 0 and 1, and every other word for a number.
-pub const FORMS: [Form; 19] = [
+/// SETTINGS and BITS for words of the digits 0 and 1, `SAMPLE ..` for samples, and every other word for a number.
+pub const FORMS: [Form; 20] = [
     Form { call: "open SEAT CELL CASE K LONG SHORT", reply: "ok" },
     Form { call: "book SEAT SLOT up|down TYPE FACTOR INDEX USER TFCI TPC", reply: "ok" },
     Form { call: "cancel SEAT SLOT FACTOR INDEX", reply: "ok" },
@@ -38,6 +44,7 @@ pub const FORMS: [Form; 19] = [
         call: "pairs CELL TYPE COUNT USER LEVEL",
         reply: "pairs and the numbers of all chips, RE then IM, parted by blanks",
     },
+    Form { call: "hear CELL TYPE COUNT SAMPLE ..", reply: "nobody, or user K RE IM" },
     Form {
         call: "parts TYPE up|down FACTOR TFCI TPC",
         reply: "parts and seven START+LENGTH, then bits B1 B2, on one line",
@@ -67,6 +74,18 @@ impl Form {
     fn wanted(&self) -> Vec<&'static str> {
         self.call.split(' ').collect()
     }
+
+    /// The words of the call as they are expected of a line that has so many: `SAMPLE ..` stands for none, one or more
+    /// samples, at most 1,100.
+    fn wanted_of(&self, words: usize) -> Vec<&'static str> {
+        let mut wanted = self.wanted();
+        if wanted.ends_with(&["SAMPLE", ".."]) {
+            wanted.truncate(wanted.len() - 2);
+            let samples = words.saturating_sub(wanted.len()).min(MOST_SAMPLES);
+            wanted.extend(vec!["SAMPLE"; samples]);
+        }
+        wanted
+    }
 }
 
 /// A word of a call that was read.
@@ -75,6 +94,7 @@ enum Value {
     Direction(Direction),
     /// Digits 0 and 1, as the numbers 0 and 1.
     Digits(Vec<u8>),
+    Sample(i64),
 }
 
 /// A call that was read: its own word, and the values of the others in their order.
@@ -118,6 +138,17 @@ impl Call {
             })
             .expect("its form has a word of digits")
     }
+
+    /// The call's samples, in their order: all that stand there, few or many.
+    pub fn samples(&self) -> Vec<i64> {
+        self.values
+            .iter()
+            .filter_map(|value| match value {
+                Value::Sample(sample) => Some(*sample),
+                _ => None,
+            })
+            .collect()
+    }
 }
 
 /// The words of a line: "`#` starts a comment wherever it stands", "words are parted by blanks: space, tab and CR".
@@ -156,6 +187,18 @@ fn digits(word: &[u8]) -> Option<Vec<u8>> {
         .collect()
 }
 
+/// "An optional minus sign and 1 to 6 digits."
+fn sample(word: &[u8]) -> Option<i64> {
+    let (sign, digits) = match word {
+        [b'-', digits @ ..] => (-1, digits),
+        digits => (1, digits),
+    };
+    if digits.len() > MOST_DIGITS {
+        return None;
+    }
+    number(digits).map(|number| sign * i64::from(number))
+}
+
 /// What a word of a line is, where its form has the word `wanted`; or what was expected.
 fn value(wanted: &str, word: &[u8]) -> Result<Value, String> {
     let (value, expected) = match wanted {
@@ -170,6 +213,10 @@ fn value(wanted: &str, word: &[u8]) -> Result<Value, String> {
         "SETTINGS" | "BITS" => {
             (digits(word).map(Value::Digits), format!("{wanted} of the digits 0 and 1"))
         }
+        "SAMPLE" => (
+            sample(word).map(Value::Sample),
+            format!("{wanted} as a minus sign or none and 1 to {MOST_DIGITS} digits"),
+        ),
         _ => (
             number(word).map(Value::Number),
             format!("{wanted} as a number of at most {}", u32::MAX),
@@ -188,9 +235,13 @@ pub fn read(line: &[u8]) -> Result<Option<Call>, String> {
         let names: Vec<&str> = FORMS.iter().map(Form::name).collect();
         return Err(format!("expected one of the calls {}", names.join(", ")));
     };
-    let wanted = form.wanted();
+    let wanted = form.wanted_of(words.len());
     if words.len() != wanted.len() {
-        return Err(format!("expected as many words as in: {}", form.call));
+        let most = match form.call.ends_with("SAMPLE ..") {
+            true => format!(", at most {MOST_SAMPLES} samples"),
+            false => String::new(),
+        };
+        return Err(format!("expected as many words as in: {}{most}", form.call));
     }
     let mut values = Vec::new();
     for (wanted, word) in wanted.iter().zip(&words).skip(1) {

@@ -1,11 +1,14 @@
 //! `second every`: one lesson of every question that docs/COMPARISON.md lists, for both programs to answer. It only
-//! asks: no answer stands here. Written by an author of the library, but for the questions about blocks (`blocks`) and
-//! the signal card's; these and the rest of this program by people who had not seen it.
+//! asks: no answer stands here. Written by an author of the library, but for the questions about blocks (`blocks`), the
+//! signal card's and those of who is heard (`hearing`); these and the rest of this program by people who had not seen
+//! it.
 
 mod blocks;
+mod hearing;
 
 use crate::midambles::{family, good_count, permitted, permitted_users};
 use crate::paging;
+use crate::rows::Rows;
 use crate::scenarios;
 use crate::timeslots::{timeslot, Direction, Question, CHIPS};
 use std::io::{self, Write};
@@ -15,14 +18,15 @@ pub type Put<'a> = &'a mut dyn FnMut(String) -> io::Result<()>;
 
 pub const LARGEST: u32 = u32::MAX;
 
-/// Prints the lesson.
-pub fn print(out: &mut dyn Write) -> io::Result<()> {
+/// Prints the lesson. The rows are for the samples that are received.
+pub fn print(out: &mut dyn Write, rows: &Rows) -> io::Result<()> {
     let put: Put = &mut |line| writeln!(out, "{line}");
     midambles(put)?;
     chips(put)?;
     blocks::all(put)?;
     pairs_of_chips(put)?;
     pairs_of_midambles(put)?;
+    hearing::all(put, rows)?;
     timeslots(put)?;
     beacons(put)?;
     indicators(put)?;

@@ -4,6 +4,7 @@ use crate::beacons::{self, beacon_timeslots};
 use crate::blocks::{block, Place};
 use crate::book::{Book, Record, Settings, MOST_OF_A_SEAT};
 use crate::calls::{self, Call, FORMS};
+use crate::hearing::hear;
 use crate::midambles::{one_chip, whole_midamble};
 use crate::paging::{self, indicator, owner, owner_words, place_words};
 use crate::refusals::{condition, Answer};
@@ -13,7 +14,7 @@ use crate::timeslots::{at, label_words, parts_words, timeslot, Direction, Questi
 use std::io::{self, BufRead, Read, Write};
 
 /// The most bytes that a line has, without its LF.
-pub const LONGEST_LINE: usize = 1023;
+pub const LONGEST_LINE: usize = 8191;
 
 /// The longest midamble, in chips.
 const LONGEST_MIDAMBLE: usize = 512;
@@ -120,6 +121,7 @@ impl Bench<'_> {
             "block" => self.block(call),
             "pair" => self.pair(call),
             "pairs" => self.pairs(call),
+            "hear" => self.hear(call),
             "parts" => parts(call),
             "at" => what_lies_at(call),
             "beacon" => beacon(call),
@@ -217,6 +219,14 @@ impl Bench<'_> {
         let mut lent = [f32::NAN; 2 * LONGEST_MIDAMBLE];
         let written = all_pairs(self.rows, cell, burst_type, count, user, level, &mut lent)?;
         Ok(format!("pairs {}", signal_card::words(&lent[..written])))
+    }
+
+    /// What stands on the line is lent, each sample a whole number.
+    fn hear(&self, call: &Call) -> Answer<String> {
+        let [cell, burst_type, count] = call.numbers();
+        let lent: Vec<Option<i64>> = call.samples().into_iter().map(Some).collect();
+        let heard = hear(self.rows, cell, burst_type, count, &lent)?;
+        Ok(heard.words())
     }
 }
 

@@ -2,9 +2,9 @@
 //! in it and adds to it, and the line formats of docs/LESSONS.md, without sight of the proved library.
 //!
 //! The rules stand here as naively as they stand in the documents; a module is a chapter of document 01, or what a
-//! request of document 02 adds to it (`blocks`, `signal_card`, `summaries`). The others read and answer lessons
-//! (`calls`, `lesson`), make them (`every`, `random` and what it uses, `noise`), and check the figures (`selftest`).
-//! `main.rs` is the program; `compare/` puts the same model beside the library over C.
+//! request of document 02 adds to it (`blocks`, `hearing`, `signal_card`, `summaries`). The others read and answer
+//! lessons (`calls`, `lesson`), make them (`every`, `random` and what they use, `noise`), and check the figures
+//! (`selftest`). `main.rs` is the program; `compare/` puts the same model beside the library over C.
 //!
 //! `tools/second` builds both, once, into target/second.
 
@@ -12,6 +12,7 @@
 pub mod beacons;
 pub mod blocks;
 pub mod book;
+pub mod hearing;
 pub mod midambles;
 pub mod paging;
 pub mod refusals;
@@ -33,5 +34,6 @@ mod moods;
 pub mod noise;
 mod questions;
 pub mod random;
+pub mod samples;
 pub mod scenarios;
 mod scribbles;

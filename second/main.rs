@@ -16,8 +16,8 @@ second: the independent program that the proved library is compared with
   second noise SEED BYTES       that many random bytes for the input of a lesson
   second rows-from SOURCE_FILE  the rows read from the scanned source 004, as in second/rows-004.txt
   second selftest               document 01's figures to check, and document 02's burst types, signal card, users
-                                under a count, midambles by the block, summaries, and counts that are 0 in opening;
-                                exit 1 if one is wrong
+                                under a count, midambles by the block, summaries, counts that are 0 in opening, and
+                                who is heard; exit 1 if one is wrong
   second --help                 this page
 ";
 
@@ -56,7 +56,7 @@ fn run(words: &[&str]) -> Result<(), Failure> {
     match words {
         [] | ["--help"] => out.write_all(USAGE.as_bytes())?,
         ["lesson"] => lesson::run(&mut io::stdin().lock(), &mut out, &kept_rows()?)?,
-        ["every"] => every::print(&mut out)?,
+        ["every"] => every::print(&mut out, &kept_rows()?)?,
         ["random", seed, lines] => {
             random::print(&mut out, number(seed)?, number(lines)?, &kept_rows()?)?
         }

@@ -154,19 +154,41 @@ pub fn shift(family: &Family, k: usize) -> usize {
     }
 }
 
-/// Refusals 1 to 4, common to one chip, a whole midamble and a block of one: the call names the count, so 4 goes by it.
-pub fn refusals_1_to_4(cell: u32, burst_type: u32, count: u32, user: u32) -> Answer<()> {
+/// Refusals 1 to 3, common to all calls that name a cell, a burst type and a count.
+pub fn refusals_1_to_3(cell: u32, burst_type: u32, count: u32) -> Answer<()> {
     refuse_if(cell > 127, 1)?;
     refuse_unknown_type(burst_type)?;
-    refuse_bad_count(burst_type, count)?;
+    refuse_bad_count(burst_type, count)
+}
+
+/// Refusals 1 to 4, common to one chip, a whole midamble and a block of one: the call names the count, so 4 goes by it.
+pub fn refusals_1_to_4(cell: u32, burst_type: u32, count: u32, user: u32) -> Answer<()> {
+    refusals_1_to_3(cell, burst_type, count)?;
     refuse_if(!permitted(count, user), 4)
 }
 
-/// The chips of a user, all of them: "Chip i of user k is element i + shift." For questions that are not refused.
-fn chips(rows: &Rows, cell: u32, burst_type: u32, user: u32) -> Vec<u8> {
+/// The chips of a user, all of them, in the extended sequence of its cell: "Chip i of user k is element i + shift."
+fn chips_among(elements: &[u8], burst_type: u32, user: u32) -> Vec<u8> {
     let family = family(burst_type);
     let shift = shift(family, user as usize);
-    elements(rows, cell, burst_type)[shift..shift + family.midamble_length].to_vec()
+    elements[shift..shift + family.midamble_length].to_vec()
+}
+
+/// The chips of a user, all of them. For questions that are not refused.
+fn chips(rows: &Rows, cell: u32, burst_type: u32, user: u32) -> Vec<u8> {
+    chips_among(&elements(rows, cell, burst_type), burst_type, user)
+}
+
+/// The users that the count permits, from 1 up, each with its chips. For questions that are not refused.
+pub fn permitted_midambles(
+    rows: &Rows,
+    cell: u32,
+    burst_type: u32,
+    count: u32,
+) -> Vec<(u32, Vec<u8>)> {
+    let elements = elements(rows, cell, burst_type);
+    let users = permitted_users(count).into_iter();
+    users.map(|user| (user, chips_among(&elements, burst_type, user))).collect()
 }
 
 /// One midamble chip, i counted from 1. Refusals 1 to 4 and 10.

@@ -44,13 +44,13 @@ fn follow(writer: &mut Writer, line: &mut Vec<u8>, piece: &[u8]) {
 
 /// A few bytes, at least one.
 fn piece(dice: &mut Dice, writer: &mut Writer) -> Vec<u8> {
-    match dice.below(40) {
-        0 => raw_bytes(dice),
-        1 => bytes_of_the_alphabet(dice),
-        2 => run_of_one_byte(dice),
-        3 => with_line_end(stretched(dice, &writer.suggest()).into_bytes()),
-        4 => very_long_line(dice),
-        5..=14 => with_line_end(with_a_byte_damaged(dice, writer.suggest().into_bytes())),
+    match dice.below(200) {
+        0..=4 => raw_bytes(dice),
+        5..=9 => bytes_of_the_alphabet(dice),
+        10..=14 => run_of_one_byte(dice),
+        15 | 16 => with_line_end(stretched(dice, &writer.suggest()).into_bytes()),
+        17 => very_long_line(dice),
+        18..=67 => with_line_end(with_a_byte_damaged(dice, writer.suggest().into_bytes())),
         _ => with_line_end(writer.suggest().into_bytes()),
     }
 }
@@ -78,10 +78,11 @@ fn run_of_one_byte(dice: &mut Dice) -> Vec<u8> {
     vec![byte; dice.between(1, 40) as usize]
 }
 
-/// A line far longer than a line may be, of one byte or of any bytes.
+/// A line about as long as a line may be, or far longer, of one byte or of any bytes.
 fn very_long_line(dice: &mut Dice) -> Vec<u8> {
-    let longest = dice.pick(&[LONGEST_LINE as u32 + 2, 1100, 2100, 2100, 4200, 20000]);
-    let length = dice.between(LONGEST_LINE as u32 - 1, longest);
+    let edge = LONGEST_LINE as u32;
+    let longest = dice.pick(&[edge + 1, edge + 2, edge + 100, 2 * edge, 20000]);
+    let length = dice.between(edge - 1, longest);
     let byte = dice.pick(b"0 1x\0#\t\r\xff");
     let any = dice.one_in(2);
     let line = (0..length)

@@ -1,13 +1,20 @@
 //! Random calls beside the class book's, for random lessons: each word is within the rules, but that some words of page
 //! and read are too short or too long, that a few levels of pair and pairs lie just outside, at 0 and 2048, that a few
-//! places of block lie above the midamble length, and that some users of a midamble are not permitted under the count.
+//! places of block lie above the midamble length, that some users of a midamble are not permitted under the count, and
+//! that some numbers and samples of hear are wrong.
 
+use crate::calls::MOST_SAMPLES;
 use crate::dice::Dice;
 use crate::midambles::{family, permitted_users};
+use crate::rows::Rows;
+use crate::samples::{call, copy, early, late, needed, noisy, together, turned, words};
 
-/// A random call of chip, midamble, block, pair, pairs, parts, at, beacon, indicator, page, read, owner. There is no
-/// `help` in it: the two programs need not agree on its reply.
-pub fn question(dice: &mut Dice) -> String {
+/// A random call of chip, midamble, block, pair, pairs, hear, parts, at, beacon, indicator, page, read, owner. A hear
+/// is rare, since it is long. There is no `help` in it: the two programs need not agree on its reply.
+pub fn question(dice: &mut Dice, rows: &Rows) -> String {
+    if dice.one_in(30) {
+        return hear(dice, rows);
+    }
     let ask = dice.pick_by_weight(&[
         (2, chip as fn(&mut Dice) -> String),
         (1, midamble),
@@ -96,6 +103,82 @@ fn pair(dice: &mut Dice) -> String {
 fn pairs(dice: &mut Dice) -> String {
     let (user, _) = user_of_a_cell(dice);
     format!("pairs {user} {}", level(dice))
+}
+
+/// A clean copy of a user, mostly of one that the count permits, now and then of any; at a level of at most `highest`.
+fn some_copy(
+    dice: &mut Dice,
+    rows: &Rows,
+    [cell, burst_type, count]: [u32; 3],
+    highest: u32,
+) -> Vec<i64> {
+    let last = 2 * family(burst_type).base_users as u32;
+    let user =
+        if dice.one_in(8) { dice.between(1, last) } else { dice.pick(&permitted_users(count)) };
+    let between = dice.between(1, highest);
+    let level = dice.pick(&[1, 2, between, between, between, highest]);
+    copy(rows, cell, burst_type, user, level)
+}
+
+/// What is on the air: mostly one user, now and then two or nobody; some of it turned by a power of j, a little of it a
+/// chip late or early, and more than half of it with noise.
+fn received(dice: &mut Dice, rows: &Rows, numbers: [u32; 3]) -> Vec<i64> {
+    let [_, burst_type, _] = numbers;
+    let mut samples = match dice.below(16) {
+        0 => vec![0; needed(burst_type)],
+        1..=4 => {
+            let one = some_copy(dice, rows, numbers, 1023);
+            together(&one, &some_copy(dice, rows, numbers, 1023))
+        }
+        _ => some_copy(dice, rows, numbers, 2047),
+    };
+    for _ in 0..dice.pick(&[0, 0, 0, 1, 2, 3]) {
+        samples = turned(&samples);
+    }
+    match dice.below(16) {
+        0 => samples = late(&samples),
+        1 => samples = early(&samples),
+        _ => {}
+    }
+    let noise = dice.pick(&[0, 0, 0, 1, 30, 300, 2047]);
+    noisy(dice, &samples, noise)
+}
+
+/// How many samples stand on the line: mostly as many as are read, else one less or more, too few, or more of them up
+/// to just above the most.
+fn number_of_samples(dice: &mut Dice, needed: usize) -> usize {
+    let most = MOST_SAMPLES as u32;
+    match dice.below(24) {
+        0 => needed - 1,
+        1 => needed + 1,
+        2 => dice.place(needed),
+        3 => dice.between(needed as u32, most) as usize,
+        4 => dice.between(most - 1, most + 1) as usize,
+        _ => needed,
+    }
+}
+
+/// A row of samples that is mostly right; now and then some of them are at the edge or outside the rule, or the cell,
+/// the type or the count is wrong.
+fn hear(dice: &mut Dice, rows: &Rows) -> String {
+    let burst_type = dice.between(1, 3);
+    let mut numbers = [dice.below(128), burst_type, dice.pick(family(burst_type).counts)];
+    let received = received(dice, rows, numbers);
+    let number = number_of_samples(dice, received.len());
+    let mut samples: Vec<i64> = received.into_iter().cycle().take(number).collect();
+    if dice.one_in(8) {
+        for _ in 0..dice.between(1, 3).min(number as u32) {
+            let edges = [2047, -2047, 2048, -2048, 65536, -65536, 999999, 1000000];
+            samples[dice.place(number)] = dice.pick(&edges);
+        }
+    }
+    match dice.below(40) {
+        0 => numbers[0] = dice.pick(&[128, 129, 255, 256, u32::MAX]),
+        1 => numbers[1] = dice.pick(&[0, 4, 255, 257, u32::MAX]),
+        2 => numbers[2] = dice.pick(&[0, 1, 2, 3, 4, 5, 6, 7, 8, 15, 16, 17, u32::MAX]),
+        _ => {}
+    }
+    call(numbers, &words(&samples))
 }
 
 /// TYPE up|down FACTOR TFCI TPC.

@@ -81,6 +81,7 @@ pub struct Writer<'a> {
     /// Calls to be made first, the last of them next.
     pending: Vec<String>,
     bench: Bench<'a>,
+    rows: &'a Rows,
 }
 
 impl Writer<'_> {
@@ -94,6 +95,7 @@ impl Writer<'_> {
             lines_left: 0,
             pending: Vec::new(),
             bench: Bench::new(rows),
+            rows,
         }
     }
 
@@ -171,7 +173,7 @@ impl Writer<'_> {
         if let Some(call) = self.pending.pop() {
             call
         } else if self.dice.one_in(10) {
-            question(&mut self.dice)
+            question(&mut self.dice, self.rows)
         } else {
             self.book_call()
         }

@@ -1,13 +1,13 @@
-//! Document 01, "Refusal numbers", with what document 02 mends in them, 3, 4 and 16, and adds to them, 22 and 23.
+//! Document 01, "Refusal numbers", with what document 02 mends in them, 3, 4 and 16, and adds to them, 22, 23 and 24.
 //!
 //! A call tests its own conditions from the lowest number upwards, so the first one that holds is the lowest.
 
 /// What a call gives back: a value, or the number of the refusal.
 pub type Answer<T> = Result<T, u32>;
 
-/// The table's column "Condition", from number 1 on. Document 02 gives no words for 3, 4, 16, 22 and 23;
+/// The table's column "Condition", from number 1 on. Document 02 gives no words for 3, 4, 16, 22, 23 and 24;
 /// docs/LESSONS.md does.
-const CONDITIONS: [&str; 23] = [
+const CONDITIONS: [&str; 24] = [
     "cell parameter above 127",
     "burst type not 1, 2 or 3",
     "midamble count not 4, 8 or 16 (types 1, 3), not 3 or 6 (type 2); in opening a seat 0 is allowed too",
@@ -31,6 +31,7 @@ const CONDITIONS: [&str; 23] = [
     "no such booking",
     "level not 1 to 2047",
     "place above the midamble length",
+    "sample not a whole number from -2047 to 2047",
 ];
 
 /// The words for a refusal number.

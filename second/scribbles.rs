@@ -1,5 +1,6 @@
 //! How the calls of random lessons are spelled and spoiled: damaged numbers, odd blanks, lines that are no call.
 
+use crate::calls::MOST_DIGITS;
 use crate::dice::Dice;
 use crate::lesson::LONGEST_LINE;
 
@@ -33,7 +34,7 @@ const NO_NUMBERS: [&str; 16] = [
 const NO_DIRECTIONS: [&str; 7] = ["Up", "DOWN", "left", "u", "downs", "1", "up|down"];
 
 /// Lines that begin with no call's word.
-const NO_CALLS: [&str; 21] = [
+const NO_CALLS: [&str; 24] = [
     "opens 3 0 1 0 0 0",
     "Open 3 0 1 0 0 0",
     "BOOK 3 2 down 1 16 3 4 0 0",
@@ -55,6 +56,9 @@ const NO_CALLS: [&str; 21] = [
     "summar 3 2",
     "summarys 3 2",
     "Summary 3 2",
+    "hea 0 1 16 1 0",
+    "hears 0 1 16",
+    "Hear 0 1 16 1 -1",
 ];
 
 /// A number in place of the right one.
@@ -92,10 +96,14 @@ fn words_of(call: &str) -> Vec<String> {
     call.split(' ').map(str::to_string).collect()
 }
 
-/// The call with one number damaged, or two, or more.
+/// The most words of a call without samples.
+const MOST_WORDS: usize = 10;
+
+/// The call with one number damaged, or two, or more. Where it has many samples, every other time one near its start.
 pub fn damaged(dice: &mut Dice, call: &str) -> String {
     let mut words = words_of(call);
-    while let Some(place) = some_place(dice, &words, is_number) {
+    let most = if dice.one_in(2) { words.len() } else { words.len().min(MOST_WORDS) };
+    while let Some(place) = some_place(dice, &words[..most], is_number) {
         let right = words[place].parse().expect("a number stands there");
         words[place] = damaged_number(dice, right).to_string();
         if !dice.one_in(3) {
@@ -105,16 +113,28 @@ pub fn damaged(dice: &mut Dice, call: &str) -> String {
     words.join(" ")
 }
 
+/// How many zeros may stand in front of a word: none where it is no number, and before a sample as many as make six
+/// digits of it.
+fn most_zeros(is_sample: bool, word: &str) -> u32 {
+    match is_number(word) && word.len() < 11 {
+        true if is_sample => MOST_DIGITS.saturating_sub(word.len()) as u32,
+        true => 14,
+        false => 0,
+    }
+}
+
 /// The same call with odd blanks, zeros in front and a comment behind.
 pub fn oddly_spelled(dice: &mut Dice, call: &str) -> String {
     let blanks = [" ", "  ", "\t", "\r", " \t ", "\r\r"];
+    let words = words_of(call);
     let mut line = dice.pick(&["", " ", "\t", "\r"]).to_string();
-    for (place, word) in words_of(call).iter().enumerate() {
+    for (place, word) in words.iter().enumerate() {
         if place > 0 {
             line.push_str(dice.pick(&blanks));
         }
-        if is_number(word) && word.len() < 11 && dice.one_in(4) {
-            line.push_str(&"0".repeat(dice.between(1, 14) as usize));
+        let most = most_zeros(words[0] == "hear" && place > 3, word);
+        if most > 0 && dice.one_in(4) {
+            line.push_str(&"0".repeat(dice.between(1, most) as usize));
         }
         line.push_str(word);
     }
@@ -169,14 +189,16 @@ fn glued(dice: &mut Dice, call: &str) -> String {
     call.replacen(' ', glue, 1)
 }
 
-/// The call made about as long as a line may be, or longer, by a comment, blanks, or zeros in front of its last word.
+/// The call made about as long as a line may be, or longer, or shorter, by a comment, blanks, or zeros in front of its
+/// last word.
 pub fn stretched(dice: &mut Dice, call: &str) -> String {
     let edge = LONGEST_LINE as u32;
-    let length = match dice.below(4) {
+    let length = match dice.below(6) {
         0 => edge,
         1 => edge + 1,
         2 => dice.between(edge - 3, edge + 3),
-        _ => dice.between(edge, 5000),
+        3 => dice.between(edge, edge + 4000),
+        _ => dice.between(100, 1100),
     } as usize;
     let missing = length.saturating_sub(call.len());
     match dice.below(4) {
@@ -192,7 +214,8 @@ pub fn stretched(dice: &mut Dice, call: &str) -> String {
     }
 }
 
-/// A line made from a call: mostly it is no call any more, now and then it still is one.
+/// A line made from a call: mostly it is no call any more, now and then it still is one. One is seldom stretched, since
+/// that makes it long.
 pub fn scribbled(dice: &mut Dice, call: &str) -> String {
     match dice.below(12) {
         0 | 1 => silent(dice),
@@ -203,7 +226,7 @@ pub fn scribbled(dice: &mut Dice, call: &str) -> String {
         7 => with_word_replaced(dice, call, is_direction, &NO_DIRECTIONS),
         8 => format!("page 1 2 {}{}", "01".repeat(30), dice.pick(&["2", "x", " 1", "-"])),
         9 => glued(dice, call),
-        10 => stretched(dice, call),
+        10 if dice.one_in(4) => stretched(dice, call),
         _ => oddly_spelled(dice, call),
     }
 }

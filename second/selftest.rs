@@ -1,9 +1,11 @@
 //! Document 01, "Figures to check", and the few facts that the chapters state beside their rules; and of document 02
 //! the burst types, the signal card, (`users`) the users that a count permits, (`blocks`) midambles by the block,
-//! (`summaries`) free codes at a glance, and (`defaults`) what a count of 0 in opening means.
+//! (`summaries`) free codes at a glance, (`defaults`) what a count of 0 in opening means, and (`hearing`) who is on the
+//! air.
 
 mod blocks;
 mod defaults;
+mod hearing;
 mod summaries;
 mod users;
 
@@ -54,6 +56,7 @@ fn figures(rows: &Rows) -> Vec<Figure> {
     figures.extend(zero_figures(rows));
     figures.extend(level_figures(rows));
     figures.extend(lent_row_figures(rows));
+    figures.extend(hearing::figures(rows));
     figures.extend(timeslot_figures());
     figures.extend(beacon_figures());
     figures.extend(paging_figures());

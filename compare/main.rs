@@ -1,10 +1,11 @@
 //! The library over C beside the second, independent program: reply, book and every lent byte. Ends with exit 1 at the
 //! first difference.
 //!
-//! `compare/run` builds and runs it: `every` puts every question of docs/COMPARISON.md, `random` seeded random lessons;
-//! without a word it does both.
+//! `compare/run` builds and runs it: `every` puts every question of docs/COMPARISON.md, `random` seeded random lessons,
+//! and `apart` holds the library's midambles to docs/APART.md; without a word it does all three.
 
 mod air;
+mod apart;
 mod beside;
 mod bookings;
 mod damage;
@@ -63,9 +64,11 @@ fn main() {
         [] => {
             every(&rows);
             random(&rows);
+            apart::run();
         }
         ["every"] => every(&rows),
         ["random"] => random(&rows),
-        _ => fail("usage: compare/run [every | random]"),
+        ["apart"] => apart::run(),
+        _ => fail("usage: compare/run [every | random | apart]"),
     }
 }

@@ -3,16 +3,18 @@
 use mathlib.Core.Path.{_≡_, refl, ap}
 use mathlib.Core.Bool.{Bool, true, false, cond}
 use mathlib.Core.List.{List, [], _∷_}
-use Prim.Native.Nat.{ℕ, _+_, _-_}
+use Prim.Native.Nat.{ℕ, zero, suc, _+_, _-_}
+use native.Mathlib.Omega.{arith}
 use lib.Dec.{eqb}
 use lib.ListN.{getD}
 use lib.Ieee.{Float}
+use borrow.Author.Tests.{ne-eqb}
 use Rattle.refusals.specs.Refusals.{Answer, refused, answered, firstOf, answer, _leaving_}
 use Rattle.midambles.specs.Calls.{chipAnswer, midambleOutcome}
 use Rattle.blocks.specs.declared.Place.{Place}
 use Rattle.blocks.specs.Calls.{startAnswer, blockRefusals, blockOutcome}
 use Rattle.signal_card.specs.Calls.{pairAnswer, pairsOutcome}
-use Rattle.hearing.specs.Calls.{heardOf, whoIsHeard, hearAnswer}
+use Rattle.hearing.specs.Calls.{nobody, heardOf, whoIsHeard, hearAnswer}
 use Rattle.timeslots.specs.Timeslots.{Part, DATA1, TFCI1, MIDAMBLE, TPC, TFCI2, DATA2, GUARD, order, partLengths, spans, sevenParts}
 use Rattle.beacons.specs.Beacons.{beaconsOf}
 use Rattle.beacons.specs.Calls.{beaconAnswer}
@@ -121,7 +123,7 @@ read-pair cell burst count user chip level = back pairAsC pairInC (λ m e. simp 
 heard-back : (cell burst : ℕ) (row : List Float) (k : ℕ) → heardInC (heardAsC (answered (heardOf cell burst row k))) ≡ answered (heardOf cell burst row k)
 unfolding heardInC heardAsC heardOf
 heard-back cell burst row zero = refl
-heard-back cell burst row (suc k) = refl
+heard-back cell burst row (suc k) = ap (λ (z : Bool). answered (cond z nobody (heardOf cell burst row (suc k)))) (ne-eqb (suc k) 0 (λ e. absurd (omega arith)))
 
 pub read-hear : (cell burst count : ℕ) (row : List Float) → heardInC (heardAsC (hearAnswer cell burst count row)) ≡ hearAnswer cell burst count row
 unfolding heardInC heardAsC hearAnswer

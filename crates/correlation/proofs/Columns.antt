@@ -1,4 +1,4 @@
--- Sixteen columns of products, each added in f32: what a turn of the loops makes of them, and what they are together. Cited by the proof of dot.
+-- The columns of products, each added in f32: what a turn of the loops makes of them, and what they are together. Cited by the proof of dot.
 -- Assumes nothing.
 use mathlib.Core.Path.{_≡_, refl, sym, ap, _∙_, subst}
 use mathlib.Core.List.{List}
@@ -37,55 +37,38 @@ module _ (z b : List Float) (by count : ℕ) (samples : Samples z count) (signs 
   term-size i low high = omega (arith, small (i - 1) (omega arith), size-product (sampleOf (getD z (i - 1) nan)) (sampleOf (getD b (by + (i - 1)) nan)))
 
   -- one product more in column l, at places m and l
-  pub column-turn : (m l t : ℕ) (x : Float) → m ≡ 16 * t → m + 16 ≤ count → count ≤ 512 → l < 16 → x ≡ ofInt binary32 (column 16 (term z b by) l t)
-      → add binary32 x (mul binary32 (getD z (m + l) nan) (getD b (by + m + l) nan)) ≡ ofInt binary32 (column 16 (term z b by) l (t + 1))
+  pub column-turn : (m l t : ℕ) (x : Float) → m ≡ 32 * t → m + 32 ≤ count → count ≤ 512 → l < 32 → x ≡ ofInt binary32 (column 32 (term z b by) l t)
+      → add binary32 x (mul binary32 (getD z (m + l) nan) (getD b (by + m + l) nan)) ≡ ofInt binary32 (column 32 (term z b by) l (t + 1))
   column-turn m l t x e room few h is =
       let f = term z b by in
       let p = m + l in
       let far : by + m + l ≡ by + p = omega arith in
-      let here : 16 * t + (l + 1) - 1 ≡ p = omega arith in
-      let size : natAbs (column 16 f l t) ≤ t * 2047 = column-size 16 f 2047 l t (λ r high. term-size (16 * r + (l + 1)) (omega arith) (omega arith)) in
-      let fits : natAbs (column 16 f l t) ≤ 2 ^ 24 = omega arith in
+      let here : 32 * t + (l + 1) - 1 ≡ p = omega arith in
+      let size : natAbs (column 32 f l t) ≤ t * 2047 = column-size 32 f 2047 l t (λ r high. term-size (32 * r + (l + 1)) (omega arith) (omega arith)) in
+      let fits : natAbs (column 32 f l t) ≤ 2 ^ 24 = omega arith in
       ap (λ (y : Float). add binary32 y (mul binary32 (getD z p nan) (getD b (by + m + l) nan))) is
-      ∙ ap (λ (k : ℕ). add binary32 (ofInt binary32 (column 16 f l t)) (mul binary32 (getD z p nan) (getD b k nan))) far
-      ∙ sum-exact binary32 _ (column 16 f l t) _ fits (product p (omega arith))
-      ∙ ap (λ (k : ℕ). ofInt binary32 (column 16 f l t +ℤ (sampleOf (getD z k nan) *ℤ sampleOf (getD b (by + k) nan)))) (sym here)
-      ∙ ap (ofInt binary32) (sym (column-more 16 f l t))
-
-  -- one column more in their sum
-  pub together-turn : (k t : ℕ) (s x : Float) → 16 * t ≡ count → count ≤ 512 → k < 16
-      → s ≡ ofInt binary32 (total (λ (l : ℕ). column 16 (term z b by) (l - 1) t) k) → x ≡ ofInt binary32 (column 16 (term z b by) k t)
-      → add binary32 s x ≡ ofInt binary32 (total (λ (l : ℕ). column 16 (term z b by) (l - 1) t) (k + 1))
-  unfolding total
-  together-turn k t s x e few h is col =
-      let f = term z b by in
-      let g : ℕ → ℤ = λ l. column 16 f (l - 1) t in
-      let each : (l : ℕ) → l < 16 → natAbs (column 16 f l t) ≤ t * 2047 =
-      λ l low. column-size 16 f 2047 l t (λ r high. term-size (16 * r + (l + 1)) (omega arith) (omega arith)) in
-      let most : natAbs (total g k) ≤ k * (t * 2047) = total-size g (t * 2047) k (λ i low high. each (i - 1) (omega arith)) in
-      let all : k * (t * 2047) ≤ 16 * (t * 2047) = mul-le-mul-right (t * 2047) (omega arith) in
-      let fits : natAbs (total g k) ≤ 2 ^ 24 = omega arith in
-      let own : natAbs (column 16 f k t) ≤ 2 ^ 24 = omega (arith, each k h) in
-      let back : suc k - 1 ≡ k = omega arith in
-      ap (λ (y : Float). add binary32 y x) is
-      ∙ ap (λ (y : Float). add binary32 (ofInt binary32 (total g k)) y) col
-      ∙ sum-exact binary32 _ (total g k) (column 16 f k t) fits (whole-is binary32 (column 16 f k t) own)
-      ∙ ap (λ (n : ℕ). ofInt binary32 (total g k +ℤ column 16 f n t)) (sym back)
-      ∙ ap (λ (n : ℕ). ofInt binary32 (total g n)) (sym (add-one k))
+      ∙ ap (λ (k : ℕ). add binary32 (ofInt binary32 (column 32 f l t)) (mul binary32 (getD z p nan) (getD b k nan))) far
+      ∙ sum-exact binary32 _ (column 32 f l t) _ fits (product p (omega arith))
+      ∙ ap (λ (k : ℕ). ofInt binary32 (column 32 f l t +ℤ (sampleOf (getD z k nan) *ℤ sampleOf (getD b (by + k) nan)))) (sym here)
+      ∙ ap (ofInt binary32) (sym (column-more 32 f l t))
 
   -- the sum is at most 512 times 2047, below 2 ^ 24
   pub dot-size : count ≤ 512 → natAbs (dotOf z b by count) ≤ 1048064
   dot-size few = omega (arith, total-size (term z b by) 2047 count term-size)
 
-  -- all sixteen
-  pub together : (t : ℕ) → 16 * t ≡ count → total (λ (l : ℕ). column 16 (term z b by) (l - 1) t) 16 ≡ dotOf z b by count
-  together t e = columns 16 (term z b by) t ∙ ap (total (term z b by)) e
+  -- a column has at most sixteen products
+  pub column-few : (t k : ℕ) → 32 * t ≡ count → count ≤ 512 → k < 32 → natAbs (column 32 (term z b by) k t) ≤ 32752
+  column-few t k e few h = omega (arith, column-size 32 (term z b by) 2047 k t (λ r high. term-size (32 * r + (k + 1)) (omega arith) (omega arith)))
+
+  -- all columns
+  pub together : (t : ℕ) → 32 * t ≡ count → total (λ (l : ℕ). column 32 (term z b by) (l - 1) t) 32 ≡ dotOf z b by count
+  together t e = columns 32 (term z b by) t ∙ ap (total (term z b by)) e
 
 -- ---- the array of columns: those before l have a row more
 abbrev pub Some : List Float → (ℕ → ℤ) → (ℕ → ℤ) → ℕ → Type 0
-Some acc old new l = ((k : ℕ) → k < l → getD acc k nan ≡ ofInt binary32 (new k)) × ((k : ℕ) → l ≤ k → k < 16 → getD acc k nan ≡ ofInt binary32 (old k))
+Some acc old new l = ((k : ℕ) → k < l → getD acc k nan ≡ ofInt binary32 (new k)) × ((k : ℕ) → l ≤ k → k < 32 → getD acc k nan ≡ ofInt binary32 (old k))
 
-pub some-more : (acc : List Float) (old new : ℕ → ℤ) (l : ℕ) (x : Float) → length acc ≡ 16 → l < 16 → x ≡ ofInt binary32 (new l) → Some acc old new l → Some (set acc l x) old new (l + 1)
+pub some-more : (acc : List Float) (old new : ℕ → ℤ) (l : ℕ) (x : Float) → length acc ≡ 32 → l < 32 → x ≡ ofInt binary32 (new l) → Some acc old new l → Some (set acc l x) old new (l + 1)
 some-more acc old new l x long h e some = (below, above)
   where
     other : (k : ℕ) → (k ≡ l → ⊥) → getD (set acc l x) k nan ≡ getD acc k nan
@@ -101,13 +84,9 @@ some-more acc old new l x long h e some = (below, above)
         le : (k : ℕ) → k < l + 1 → k ≤ l
         le k lt = omega arith
 
-    above : (k : ℕ) → l + 1 ≤ k → k < 16 → getD (set acc l x) k nan ≡ ofInt binary32 (old k)
+    above : (k : ℕ) → l + 1 ≤ k → k < 32 → getD (set acc l x) k nan ≡ ofInt binary32 (old k)
     above k lt far = other k (λ same. absurd (omega arith)) ∙ some .1 k (omega arith) far
 
 -- nothing was added yet
-pub none-yet : (acc : List Float) (f : ℕ → ℤ) → ((k : ℕ) → k < 16 → getD acc k nan ≡ ofBits binary32 0) → (k : ℕ) → k < 16 → getD acc k nan ≡ ofInt binary32 (column 16 f k 0)
-none-yet acc f h k l = h k l ∙ zero-plain .0 ∙ ap (ofInt binary32) (sym (column-none 16 f k))
-
-pub nothing-yet : (g : ℕ → ℤ) → ofBits binary32 0 ≡ ofInt binary32 (total g 0)
-unfolding total
-nothing-yet g = zero-plain .0
+pub none-yet : (acc : List Float) (f : ℕ → ℤ) → ((k : ℕ) → k < 32 → getD acc k nan ≡ ofBits binary32 0) → (k : ℕ) → k < 32 → getD acc k nan ≡ ofInt binary32 (column 32 f k 0)
+none-yet acc f h k l = h k l ∙ zero-plain .0 ∙ ap (ofInt binary32) (sym (column-none 32 f k))

@@ -1,4 +1,5 @@
 pub mod Columns
+pub mod Halves
 pub mod Turning
 pub mod RowSigns
 pub mod Meaning

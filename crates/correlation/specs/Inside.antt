@@ -3,7 +3,7 @@
 use mathlib.Core.Path.{_≡_}
 use mathlib.Core.Bool.{cond}
 use mathlib.Core.List.{List, [], _∷_}
-use Prim.Native.Nat.{ℕ, zero, suc, _+_, _-_, _%_, _≤_, _<_}
+use Prim.Native.Nat.{ℕ, zero, suc, _+_, _-_, _%_, _^_, _≤_, _<_}
 use lib.Dec.{T, eqb}
 use lib.ListN.{getD}
 use lib.IntN.{ℤ, pos, negsuc, negℤ, natAbs, _*ℤ_}
@@ -34,6 +34,10 @@ pub record Samples (z : List Float) (n : ℕ) : Type 0 where
 
 pub record Signs (b : List Float) (n : ℕ) : Type 0 where
   pub all : (m : ℕ) → m < n → T (isSample (getD b m nan)) × (natAbs (sampleOf (getD b m nan)) ≤ 1)
+
+-- the first n floats are whole numbers of less than 2 ^ 23, none of them a minus zero
+pub record Wholes (z : List Float) (n : ℕ) : Type 0 where
+  pub all : (m : ℕ) → m < n → (getD z m nan ≡ ofInt binary32 (sampleOf (getD z m nan))) × (natAbs (sampleOf (getD z m nan)) ≤ 2 ^ 23)
 
 -- the sum of n floats, each times the float of another row that stands `by` places further on
 abbrev pub term : List Float → List Float → ℕ → ℕ → ℤ

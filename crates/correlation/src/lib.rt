@@ -5,8 +5,10 @@
 ghost use mathlib.Core.Path.{_≡_};
 ghost use Prim.Native.Nat.{ℕ, _≤_, _<_, _+_, _*_, _%_};
 ghost use lib.ListN.{length, getD};
+ghost use lib.IntN.{_+ℤ_};
 ghost use lib.Ieee.{nan, binary32, ofInt};
-ghost use Rattle.correlation.specs.Inside.{turnedBack, sumsOf, Samples, Signs, dotOf, Turned, signTable, HoldsSigns};
+ghost use Rattle.samples.specs.Samples.{sampleOf};
+ghost use Rattle.correlation.specs.Inside.{turnedBack, sumsOf, Samples, Signs, Wholes, dotOf, Turned, signTable, HoldsSigns};
 
 // The real and the imaginary sum of a user.
 pub struct Sums {
@@ -14,35 +16,45 @@ pub struct Sums {
     pub im: f32,
 }
 
-// The sum of the first `count` floats of z, each times the sign that stands `by` places further on in b: in sixteen columns, of which several are added at once, then the columns.
+// To each of the first `half` columns the one that stands `half` places further on is added.
+fn halve(half: usize, columns: &mut [f32])
+    requires { ⌜ (2 * half ≤ length (now columns)) × (half ≤ 16) × Wholes (now columns) (2 * half) ⌝ }
+    ensures { λ _. ⌜ ((k : ℕ) → k < half → getD (now (columns .exit)) k nan ≡ ofInt binary32 (sampleOf (getD (now (columns .entry)) k nan) +ℤ sampleOf (getD (now (columns .entry)) (k + half) nan))) ⌝ }
+{
+    let mut k: usize = 0;
+    while k < half {
+        columns[k] = columns[k] + columns[k + half];
+        k += 1;
+    }
+}
+
+// The sum of the first `count` floats of z, each times the sign that stands `by` places further on in b: in 32 columns, of which several are added at once, then the columns by halves.
 fn dot(z: &[f32], b: &[f32], by: usize, count: usize) -> f32
-    requires { ⌜ (count ≤ 512) × (count % 16 ≡ 0) × (by ≤ 480) ⌝ }
+    requires { ⌜ (count ≤ 512) × (count % 32 ≡ 0) × (by ≤ 480) ⌝ }
     requires { ⌜ (count ≤ length (now z)) × (by + count ≤ length (now b)) ⌝ }
     requires { ⌜ Samples (now z) count × Signs (now b) (by + count) ⌝ }
     ensures { λ r. ⌜ r ≡ ofInt binary32 (dotOf (now (z .entry)) (now (b .entry)) by count) ⌝ }
 {
-    let mut columns = [0.0f32; 16];
+    let mut columns = [0.0f32; 32];
     let mut m: usize = 0;
     while m < count {
         let mut l: usize = 0;
-        while l < 16 {
+        while l < 32 {
             columns[l] = columns[l] + z[m + l] * b[by + m + l];
             l += 1;
         }
-        m += 16;
+        m += 32;
     }
-    let mut sum = 0.0f32;
-    let mut k: usize = 0;
-    while k < 16 {
-        sum = sum + columns[k];
-        k += 1;
-    }
-    sum
+    halve(16, &mut columns);
+    halve(8, &mut columns);
+    halve(4, &mut columns);
+    halve(2, &mut columns);
+    columns[0] + columns[1]
 }
 
 // A user's two sums, from the turned samples and the signs of the row: turned back as far as the user is shifted.
 pub fn user_sums(re: &[f32], im: &[f32], signs: &[f32], by: usize, count: usize) -> Sums
-    requires { ⌜ (count ≤ 512) × (count % 16 ≡ 0) × (by ≤ 480) ⌝ }
+    requires { ⌜ (count ≤ 512) × (count % 32 ≡ 0) × (by ≤ 480) ⌝ }
     requires { ⌜ (count ≤ length (now re)) × (count ≤ length (now im)) × (by + count ≤ length (now signs)) ⌝ }
     requires { ⌜ Samples (now re) count × Samples (now im) count × Signs (now signs) (by + count) ⌝ }
     ensures { λ r. ⌜ r ≡ sumsOf (turnedBack by (dotOf (now (re .entry)) (now (signs .entry)) by count, dotOf (now (im .entry)) (now (signs .entry)) by count)) ⌝ }
@@ -61,7 +73,8 @@ pub fn user_sums(re: &[f32], im: &[f32], signs: &[f32], by: usize, count: usize)
     }
 }
 
-// The first `count` samples of a row, each turned back by j to the power of its place, from 1: the real parts into `re`, the imaginary parts into `im`.
+// The first `count` samples of a row, each turned back by j to the power of its place, from 1: the real parts into `re`, the imaginary parts into `im`. Four are read before they are
+// written, so that they can be turned at once.
 pub fn turn(row: &[f32], count: usize, re: &mut [f32], im: &mut [f32])
     requires { ⌜ (count ≤ 512) × (count % 4 ≡ 0) × (count ≤ length (now re)) × (count ≤ length (now im)) ⌝ }
     requires { ⌜ (2 * count ≤ length (now row)) × Samples (now row) (2 * count) ⌝ }
@@ -70,14 +83,22 @@ pub fn turn(row: &[f32], count: usize, re: &mut [f32], im: &mut [f32])
     let mut i: usize = 0;
     while i < count {
         let k = 2 * i;
-        re[i] = row[k + 1];
-        im[i] = -row[k];
-        re[i + 1] = -row[k + 2];
-        im[i + 1] = -row[k + 3];
-        re[i + 2] = -row[k + 5];
-        im[i + 2] = row[k + 4];
-        re[i + 3] = row[k + 6];
-        im[i + 3] = row[k + 7];
+        let a = row[k];
+        let b = row[k + 1];
+        let c = row[k + 2];
+        let d = row[k + 3];
+        let e = row[k + 4];
+        let f = row[k + 5];
+        let g = row[k + 6];
+        let h = row[k + 7];
+        re[i] = b;
+        re[i + 1] = -c;
+        re[i + 2] = -f;
+        re[i + 3] = g;
+        im[i] = -a;
+        im[i + 1] = -d;
+        im[i + 2] = e;
+        im[i + 3] = h;
         i += 4;
     }
 }

@@ -17,38 +17,99 @@ Inv-loop row count re₀ im₀ i₀ re im i = (i ≤ count) × (i % 4 ≡ 0) × 
 abbrev μ-loop : tie.MeasureT-loop
 μ-loop row count re₀ im₀ i₀ re im i = count - i
 
+-- in a turn there is room for four
+room : (t : tie.In-loop Inv-loop μ-loop) → t .before .loop .i + 4 ≤ t .before .before .args .count
+room t = four-places (t .before .loop .i) (t .before .before .args .count) (t .loop-test .taken) (t .before .loop .inv .1) (t .before .before .pre .0 .1)
+
 loop-holds : tie.Need-loop-holds Inv-loop μ-loop
 loop-holds c = (omega arith, refl, refl, refl, record { real = below-none _; imaginary = below-none _ })
 
 mul-k : tie.Need-mul-k Inv-loop μ-loop
 mul-k c = search needs
 
-add-re : tie.Need-add-re Inv-loop μ-loop
-add-re c = search needs
+mul-a : tie.Need-mul-a Inv-loop μ-loop
+mul-a c = search needs
+
+shared-slice-read-a : tie.Need-shared-slice-read-a Inv-loop μ-loop
+shared-slice-read-a c = search needs
+
+add-b : tie.Need-add-b Inv-loop μ-loop
+add-b c = search needs
+
+mul-b : tie.Need-mul-b Inv-loop μ-loop
+mul-b c = search needs
+
+shared-slice-read-b : tie.Need-shared-slice-read-b Inv-loop μ-loop
+shared-slice-read-b c = search needs
+
+add-c : tie.Need-add-c Inv-loop μ-loop
+add-c c = search needs
+
+mul-c : tie.Need-mul-c Inv-loop μ-loop
+mul-c c = search needs
+
+shared-slice-read-c : tie.Need-shared-slice-read-c Inv-loop μ-loop
+shared-slice-read-c c = let four = room (c .before .before .before) in omega arith
+
+add-d : tie.Need-add-d Inv-loop μ-loop
+add-d c = search needs
+
+mul-d : tie.Need-mul-d Inv-loop μ-loop
+mul-d c = search needs
+
+shared-slice-read-d : tie.Need-shared-slice-read-d Inv-loop μ-loop
+shared-slice-read-d c = search needs
+
+add-e : tie.Need-add-e Inv-loop μ-loop
+add-e c = search needs
+
+mul-e : tie.Need-mul-e Inv-loop μ-loop
+mul-e c = search needs
+
+shared-slice-read-e : tie.Need-shared-slice-read-e Inv-loop μ-loop
+shared-slice-read-e c = let four = room (c .before .before .before .before .before) in omega arith
+
+add-f : tie.Need-add-f Inv-loop μ-loop
+add-f c = search needs
+
+mul-f : tie.Need-mul-f Inv-loop μ-loop
+mul-f c = search needs
+
+shared-slice-read-f : tie.Need-shared-slice-read-f Inv-loop μ-loop
+shared-slice-read-f c = search needs
+
+add-g : tie.Need-add-g Inv-loop μ-loop
+add-g c = search needs
+
+mul-g : tie.Need-mul-g Inv-loop μ-loop
+mul-g c = search needs
+
+shared-slice-read-g : tie.Need-shared-slice-read-g Inv-loop μ-loop
+shared-slice-read-g c = let four = room (c .before .before .before .before .before .before .before) in omega arith
+
+add-h : tie.Need-add-h Inv-loop μ-loop
+add-h c = search needs
+
+mul-h : tie.Need-mul-h Inv-loop μ-loop
+mul-h c = search needs
+
+shared-slice-read-h : tie.Need-shared-slice-read-h Inv-loop μ-loop
+shared-slice-read-h c = search needs
 
 mul-re : tie.Need-mul-re Inv-loop μ-loop
 mul-re c = search needs
 
-shared-slice-read-re : tie.Need-shared-slice-read-re Inv-loop μ-loop
-shared-slice-read-re c = search needs
+slice-write-re : tie.Need-slice-write-re Inv-loop μ-loop
+slice-write-re c = search needs
+
+add-re : tie.Need-add-re Inv-loop μ-loop
+add-re c = search needs
 
 mul-re-2 : tie.Need-mul-re-2 Inv-loop μ-loop
 mul-re-2 c = search needs
 
-slice-write-re : tie.Need-slice-write-re Inv-loop μ-loop
-slice-write-re c = search needs
-
-mul-im : tie.Need-mul-im Inv-loop μ-loop
-mul-im c = search needs
-
-shared-slice-read-im : tie.Need-shared-slice-read-im Inv-loop μ-loop
-shared-slice-read-im c = search needs
-
-mul-im-2 : tie.Need-mul-im-2 Inv-loop μ-loop
-mul-im-2 c = search needs
-
-slice-write-im : tie.Need-slice-write-im Inv-loop μ-loop
-slice-write-im c = search needs
+slice-write-re-2 : tie.Need-slice-write-re-2 Inv-loop μ-loop
+slice-write-re-2 c = let four = room (c .before .before .before .before .before .before .before .before) in simp length-set (omega arith)
 
 add-re-2 : tie.Need-add-re-2 Inv-loop μ-loop
 add-re-2 c = search needs
@@ -56,11 +117,8 @@ add-re-2 c = search needs
 mul-re-3 : tie.Need-mul-re-3 Inv-loop μ-loop
 mul-re-3 c = search needs
 
-shared-slice-read-re-2 : tie.Need-shared-slice-read-re-2 Inv-loop μ-loop
-shared-slice-read-re-2 c =
-    let l = c .before .before .before .before in
-    let room = four-places (l .loop .i) (l .before .args .count) (c .before .before .before .loop-test .taken) (l .loop .inv .1) (l .before .pre .0 .1) in
-    omega arith
+slice-write-re-3 : tie.Need-slice-write-re-3 Inv-loop μ-loop
+slice-write-re-3 c = let four = room (c .before .before .before .before .before .before .before .before) in simp length-set (omega arith)
 
 add-re-3 : tie.Need-add-re-3 Inv-loop μ-loop
 add-re-3 c = search needs
@@ -68,122 +126,41 @@ add-re-3 c = search needs
 mul-re-4 : tie.Need-mul-re-4 Inv-loop μ-loop
 mul-re-4 c = search needs
 
-slice-write-re-2 : tie.Need-slice-write-re-2 Inv-loop μ-loop
-slice-write-re-2 c =
-    let l = c .before .before .before .before in
-    let room = four-places (l .loop .i) (l .before .args .count) (c .before .before .before .loop-test .taken) (l .loop .inv .1) (l .before .pre .0 .1) in
-    simp length-set (omega arith)
+slice-write-re-4 : tie.Need-slice-write-re-4 Inv-loop μ-loop
+slice-write-re-4 c = let four = room (c .before .before .before .before .before .before .before .before) in simp length-set (omega arith)
+
+mul-im : tie.Need-mul-im Inv-loop μ-loop
+mul-im c = search needs
+
+slice-write-im : tie.Need-slice-write-im Inv-loop μ-loop
+slice-write-im c = search needs
 
 add-im : tie.Need-add-im Inv-loop μ-loop
 add-im c = search needs
 
-mul-im-3 : tie.Need-mul-im-3 Inv-loop μ-loop
-mul-im-3 c = search needs
+mul-im-2 : tie.Need-mul-im-2 Inv-loop μ-loop
+mul-im-2 c = search needs
 
-shared-slice-read-im-2 : tie.Need-shared-slice-read-im-2 Inv-loop μ-loop
-shared-slice-read-im-2 c = search needs
+slice-write-im-2 : tie.Need-slice-write-im-2 Inv-loop μ-loop
+slice-write-im-2 c = let four = room (c .before .before .before .before .before .before .before .before) in simp length-set (omega arith)
 
 add-im-2 : tie.Need-add-im-2 Inv-loop μ-loop
 add-im-2 c = search needs
 
-mul-im-4 : tie.Need-mul-im-4 Inv-loop μ-loop
-mul-im-4 c = search needs
+mul-im-3 : tie.Need-mul-im-3 Inv-loop μ-loop
+mul-im-3 c = search needs
 
-slice-write-im-2 : tie.Need-slice-write-im-2 Inv-loop μ-loop
-slice-write-im-2 c =
-    let l = c .before .before .before .before .before in
-    let room = four-places (l .loop .i) (l .before .args .count) (c .before .before .before .before .loop-test .taken) (l .loop .inv .1) (l .before .pre .0 .1) in
-    simp length-set (omega arith)
-
-add-re-4 : tie.Need-add-re-4 Inv-loop μ-loop
-add-re-4 c = search needs
-
-mul-re-5 : tie.Need-mul-re-5 Inv-loop μ-loop
-mul-re-5 c = search needs
-
-shared-slice-read-re-3 : tie.Need-shared-slice-read-re-3 Inv-loop μ-loop
-shared-slice-read-re-3 c = search needs
-
-add-re-5 : tie.Need-add-re-5 Inv-loop μ-loop
-add-re-5 c = search needs
-
-mul-re-6 : tie.Need-mul-re-6 Inv-loop μ-loop
-mul-re-6 c = search needs
-
-slice-write-re-3 : tie.Need-slice-write-re-3 Inv-loop μ-loop
-slice-write-re-3 c =
-    let l = c .before .before .before .before .before .before in
-    let room = four-places (l .loop .i) (l .before .args .count) (c .before .before .before .before .before .loop-test .taken) (l .loop .inv .1) (l .before .pre .0 .1) in
-    simp length-set (omega arith)
+slice-write-im-3 : tie.Need-slice-write-im-3 Inv-loop μ-loop
+slice-write-im-3 c = let four = room (c .before .before .before .before .before .before .before .before) in simp length-set (omega arith)
 
 add-im-3 : tie.Need-add-im-3 Inv-loop μ-loop
 add-im-3 c = search needs
 
-mul-im-5 : tie.Need-mul-im-5 Inv-loop μ-loop
-mul-im-5 c = search needs
-
-shared-slice-read-im-3 : tie.Need-shared-slice-read-im-3 Inv-loop μ-loop
-shared-slice-read-im-3 c =
-    let l = c .before .before .before .before .before .before .before in
-    let room = four-places (l .loop .i) (l .before .args .count) (c .before .before .before .before .before .before .loop-test .taken) (l .loop .inv .1) (l .before .pre .0 .1) in
-    omega arith
-
-add-im-4 : tie.Need-add-im-4 Inv-loop μ-loop
-add-im-4 c = search needs
-
-mul-im-6 : tie.Need-mul-im-6 Inv-loop μ-loop
-mul-im-6 c = search needs
-
-slice-write-im-3 : tie.Need-slice-write-im-3 Inv-loop μ-loop
-slice-write-im-3 c =
-    let l = c .before .before .before .before .before .before .before in
-    let room = four-places (l .loop .i) (l .before .args .count) (c .before .before .before .before .before .before .loop-test .taken) (l .loop .inv .1) (l .before .pre .0 .1) in
-    simp length-set (omega arith)
-
-add-re-6 : tie.Need-add-re-6 Inv-loop μ-loop
-add-re-6 c = search needs
-
-mul-re-7 : tie.Need-mul-re-7 Inv-loop μ-loop
-mul-re-7 c = search needs
-
-shared-slice-read-re-4 : tie.Need-shared-slice-read-re-4 Inv-loop μ-loop
-shared-slice-read-re-4 c =
-    let l = c .before .before .before .before .before .before .before .before in
-    let room = four-places (l .loop .i) (l .before .args .count) (c .before .before .before .before .before .before .before .loop-test .taken) (l .loop .inv .1) (l .before .pre .0 .1) in
-    omega arith
-
-add-re-7 : tie.Need-add-re-7 Inv-loop μ-loop
-add-re-7 c = search needs
-
-mul-re-8 : tie.Need-mul-re-8 Inv-loop μ-loop
-mul-re-8 c = search needs
-
-slice-write-re-4 : tie.Need-slice-write-re-4 Inv-loop μ-loop
-slice-write-re-4 c =
-    let l = c .before .before .before .before .before .before .before .before in
-    let room = four-places (l .loop .i) (l .before .args .count) (c .before .before .before .before .before .before .before .loop-test .taken) (l .loop .inv .1) (l .before .pre .0 .1) in
-    simp length-set (omega arith)
-
-add-im-5 : tie.Need-add-im-5 Inv-loop μ-loop
-add-im-5 c = search needs
-
-mul-im-7 : tie.Need-mul-im-7 Inv-loop μ-loop
-mul-im-7 c = search needs
-
-shared-slice-read-im-4 : tie.Need-shared-slice-read-im-4 Inv-loop μ-loop
-shared-slice-read-im-4 c = search needs
-
-add-im-6 : tie.Need-add-im-6 Inv-loop μ-loop
-add-im-6 c = search needs
-
-mul-im-8 : tie.Need-mul-im-8 Inv-loop μ-loop
-mul-im-8 c = search needs
+mul-im-4 : tie.Need-mul-im-4 Inv-loop μ-loop
+mul-im-4 c = search needs
 
 slice-write-im-4 : tie.Need-slice-write-im-4 Inv-loop μ-loop
-slice-write-im-4 c =
-    let l = c .before .before .before .before .before .before .before .before .before in
-    let room = four-places (l .loop .i) (l .before .args .count) (c .before .before .before .before .before .before .before .before .loop-test .taken) (l .loop .inv .1) (l .before .pre .0 .1) in
-    simp length-set (omega arith)
+slice-write-im-4 c = let four = room (c .before .before .before .before .before .before .before .before) in simp length-set (omega arith)
 
 add-i : tie.Need-add-i Inv-loop μ-loop
 add-i c = search needs
@@ -193,20 +170,19 @@ loop-less c = search needs
 
 loop-again : tie.Need-loop-again Inv-loop μ-loop
 loop-again c =
-    let l = c .before .before .before .before .before .before .before .before .before in
+    let t = c .before .before .before .before .before .before .before .before in
+    let l = t .before in
     let s = l .before in
     let inv = l .loop .inv in
     let row = now (s .args .row) in
-    let count = s .args .count in
-    let room = four-places (l .loop .i) count (c .before .before .before .before .before .before .before .before .loop-test .taken) (inv .1) (s .pre .0 .1) in
     (
-      room,
+      room t,
       omega (arith, inv .1),
       four-lengths (l .loop .re) _ _ _ _ _ _ _ _ _ (inv .2),
       four-lengths (l .loop .im) _ _ _ _ _ _ _ _ _ (inv .3),
       record {
-        real = real-turn row count (s .pre .1 .1) (l .loop .i) (inv .1) room (l .loop .re) (omega arith) (inv .4 .real);
-        imaginary = imaginary-turn row count (s .pre .1 .1) (l .loop .i) (inv .1) room (l .loop .im) (omega arith) (inv .4 .imaginary)
+        real = real-turn row (s .args .count) (s .pre .1 .1) (l .loop .i) (inv .1) (room t) (l .loop .re) (omega arith) (inv .4 .real);
+        imaginary = imaginary-turn row (s .args .count) (s .pre .1 .1) (l .loop .i) (inv .1) (room t) (l .loop .im) (omega arith) (inv .4 .imaginary)
       },
     )
 
@@ -231,50 +207,50 @@ turn-spec =
     μ-loop
     loop-holds
     mul-k
-    add-re
+    mul-a
+    shared-slice-read-a
+    add-b
+    mul-b
+    shared-slice-read-b
+    add-c
+    mul-c
+    shared-slice-read-c
+    add-d
+    mul-d
+    shared-slice-read-d
+    add-e
+    mul-e
+    shared-slice-read-e
+    add-f
+    mul-f
+    shared-slice-read-f
+    add-g
+    mul-g
+    shared-slice-read-g
+    add-h
+    mul-h
+    shared-slice-read-h
     mul-re
-    shared-slice-read-re
-    mul-re-2
     slice-write-re
-    mul-im
-    shared-slice-read-im
-    mul-im-2
-    slice-write-im
+    add-re
+    mul-re-2
+    slice-write-re-2
     add-re-2
     mul-re-3
-    shared-slice-read-re-2
+    slice-write-re-3
     add-re-3
     mul-re-4
-    slice-write-re-2
-    add-im
-    mul-im-3
-    shared-slice-read-im-2
-    add-im-2
-    mul-im-4
-    slice-write-im-2
-    add-re-4
-    mul-re-5
-    shared-slice-read-re-3
-    add-re-5
-    mul-re-6
-    slice-write-re-3
-    add-im-3
-    mul-im-5
-    shared-slice-read-im-3
-    add-im-4
-    mul-im-6
-    slice-write-im-3
-    add-re-6
-    mul-re-7
-    shared-slice-read-re-4
-    add-re-7
-    mul-re-8
     slice-write-re-4
-    add-im-5
-    mul-im-7
-    shared-slice-read-im-4
-    add-im-6
-    mul-im-8
+    mul-im
+    slice-write-im
+    add-im
+    mul-im-2
+    slice-write-im-2
+    add-im-2
+    mul-im-3
+    slice-write-im-3
+    add-im-3
+    mul-im-4
     slice-write-im-4
     add-i
     loop-less

@@ -41,8 +41,8 @@ chips-are burst d e = ap (λ (x : Code). x .length) e
 base-is : (burst : ℕ) (d : Code) → d ≡ codeOf burst → (d .base ≡ codeOf burst .base) × (d .base ≤ 8)
 base-is burst d e = (ap (λ (x : Code). x .base) e, small d burst e .base-high)
 
-sixteens : (burst : ℕ) (d : Code) → d ≡ codeOf burst → d .length % 16 ≡ 0
-sixteens burst d e = ap (λ (x : Code). x .length % 16) e ∙ of-codes (λ (x : Code). x .length % 16 ≡ 0) refl refl burst
+thirty-twos : (burst : ℕ) (d : Code) → d ≡ codeOf burst → d .length % 32 ≡ 0
+thirty-twos burst d e = ap (λ (x : Code). x .length % 32) e ∙ of-codes (λ (x : Code). x .length % 32 ≡ 0) refl refl burst
 
 -- a user's sums as they were found, handed to a law on them
 module _ (u : tie.After-user-sums Inv-loop μ-loop) where
@@ -126,7 +126,7 @@ user-sums-requires c κs =
     let few = length-high (s .args .burst) in
     let p = s .pre in
     (
-      (omega arith, sixteens (s .args .burst) _ (code-is l), far),
+      (omega arith, thirty-twos (s .args .burst) _ (code-is l), far),
       (
         (omega arith, omega arith, omega arith),
         (record { all = λ m h. p .1 .0 .all m (omega arith) }, record { all = λ m h. p .1 .1 .all m (omega arith) }, record { all = λ m h. p .1 .2 .all m (omega arith) }),

@@ -14,11 +14,11 @@ type Hear = fn(u32, u32, u32, &[f32]) -> MqHear;
 /// One user after the other, and four at once.
 const FORMS: [Hear; 2] = [plain::hear, plain::hear_by_fours];
 
-/// The sums of sixteen users inside the library (crates/growth).
+/// The sums of sixteen users inside the library (crates/correlating).
 pub mod inside {
     mod c {
         extern "C" {
-            pub fn growth_correlate(
+            pub fn correlating_sums(
                 cell: u32,
                 row: *const f32,
                 row_length: usize,
@@ -34,7 +34,7 @@ pub mod inside {
     pub fn correlate(cell: u32, row: &[f32], times: u32, out: &mut [f32]) -> u32 {
         // SAFETY: plain numbers, and pointers with the lengths of slices that are ours alone for the call.
         unsafe {
-            c::growth_correlate(cell, row.as_ptr(), row.len(), times, out.as_mut_ptr(), out.len())
+            c::correlating_sums(cell, row.as_ptr(), row.len(), times, out.as_mut_ptr(), out.len())
         }
     }
 }

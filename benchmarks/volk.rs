@@ -2,7 +2,7 @@
 //! long code. The chips of all sixteen users are prepared beforehand and nothing is tested, in memory as volk wants it.
 //!
 //! Library and volk take turns in rounds over one row, and the best round of each is kept. Of the library the sums alone
-//! are timed inside (crates/growth), where what is prepared once is timed by a round of no sums and taken off, and the
+//! are timed inside (crates/correlating), where what is prepared once is timed by a round of no sums and taken off, and the
 //! whole call, which prepares and tests anew each time.
 
 use crate::dice::{same, Dice};

@@ -45,7 +45,7 @@ module _ (v : ℕ → ℤ) (row : List Float) (n b : ℕ) (held : Hold v row n b
   are-wholes =
       record {
         all = λ k h.
-          (held .is k h ∙ ap (ofInt binary32) (sym (read-back k h)), let few = held .few k h in omega (arith, ap natAbs (read-back k h)))
+            (held .is k h ∙ ap (ofInt binary32) (sym (read-back k h)), let few = held .few k h in omega (arith, ap natAbs (read-back k h)));
       }
 
   -- the half of them, with the other half added
@@ -54,8 +54,8 @@ module _ (v : ℕ → ℤ) (row : List Float) (n b : ℕ) (held : Hold v row n b
   hold-half h after e added =
       record {
         is = λ k l.
-          added k l ∙ ap (λ (z : ℤ). ofInt binary32 (z +ℤ sampleOf (getD row (k + h) nan))) (read-back k (omega arith)) ∙ ap (λ (z : ℤ). ofInt binary32 (v k +ℤ z)) (read-back (k + h) (omega arith));
-        few = λ k l. let one = held .few k (omega arith) in let other = held .few (k + h) (omega arith) in omega (arith, size-sum (v k) (v (k + h)))
+            added k l ∙ ap (λ (z : ℤ). ofInt binary32 (z +ℤ sampleOf (getD row (k + h) nan))) (read-back k (omega arith)) ∙ ap (λ (z : ℤ). ofInt binary32 (v k +ℤ z)) (read-back (k + h) (omega arith));
+        few = λ k l. let one = held .few k (omega arith) in let other = held .few (k + h) (omega arith) in omega (arith, size-sum (v k) (v (k + h)));
       }
 
   -- the last two

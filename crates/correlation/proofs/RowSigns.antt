@@ -125,7 +125,7 @@ module _ (cell burst : ℕ) where
   signs-held p n powers rest once out e =
       subst
       (λ (q : ℕ). powers ≡ run (λ (i : ℕ). element P row (i + 0)) q ++ rest
-        → ((k : ℕ) → k < q → getD once k nan ≡ getD signTable (4 * ((k + 1) % 4) + getD powers k 0) nan) → ((m : ℕ) → m < n → getD out m nan ≡ getD once (m % q) nan) → HoldsSigns cell burst n out)
+      → ((k : ℕ) → k < q → getD once k nan ≡ getD signTable (4 * ((k + 1) % 4) + getD powers k 0) nan) → ((m : ℕ) → m < n → getD out m nan ≡ getD once (m % q) nan) → HoldsSigns cell burst n out)
       e
       (λ filled signs again. record { sign = λ m h. sign-placed powers rest once out m filled signs (again m h) })
 
@@ -144,9 +144,8 @@ module _ (cell burst : ℕ) where
   pub are-signs : (n k : ℕ) (b : List Float) → HoldsSigns cell burst n b → k ≤ n → Signs b k
   are-signs n k b held h =
       record {
-        all = λ m l.
-          (
-            subst (λ (x : Float). T (isSample x)) (sym (held .sign m (omega arith))) (subst T (sym (is-whole (signAt cell burst (m + 1)) (omega (arith, sign-size (m + 1))))) tt),
-            omega (arith, ap natAbs (sign-read n b m held (omega arith)), sign-size (m + 1)),
-          )
+        all = λ m l. (
+          subst (λ (x : Float). T (isSample x)) (sym (held .sign m (omega arith))) (subst T (sym (is-whole (signAt cell burst (m + 1)) (omega (arith, sign-size (m + 1))))) tt),
+          omega (arith, ap natAbs (sign-read n b m held (omega arith)), sign-size (m + 1)),
+        );
       }

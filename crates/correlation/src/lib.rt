@@ -105,10 +105,22 @@ pub fn turn(row: &[f32], count: usize, re: &mut [f32], im: &mut [f32])
 
 // The sign of an element whose power of j stands where i leaves the remainder r by 4: at 4r + power. Only two powers can stand there; at the others is 0.
 const SIGNS: [f32; 16] = [
-    1.0, 0.0, -1.0, 0.0, // r = 0
-    0.0, 1.0, 0.0, -1.0, // r = 1
-    -1.0, 0.0, 1.0, 0.0, // r = 2
-    0.0, -1.0, 0.0, 1.0, // r = 3
+    1.0,
+    0.0,
+    -1.0,
+    0.0, // r = 0
+    0.0,
+    1.0,
+    0.0,
+    -1.0, // r = 1
+    -1.0,
+    0.0,
+    1.0,
+    0.0, // r = 2
+    0.0,
+    -1.0,
+    0.0,
+    1.0, // r = 3
 ];
 
 // The signs of the first `count` elements, from their powers of j.

@@ -80,5 +80,5 @@ module _ (f : Format) (num den : ℕ) (some : 0 < den) (at-least : 2 ^ (prec f -
       record {
         number = q;
         few = q-few;
-        value = in-ones (round f false num den) q (low f) (subst (λ (x : Float). HasValue x false (q * 2 ^ low f) (2 ^ low f)) (sym is-units) (units-val f false q (low f) finite))
+        value = in-ones (round f false num den) q (low f) (subst (λ (x : Float). HasValue x false (q * 2 ^ low f) (2 ^ low f)) (sym is-units) (units-val f false q (low f) finite));
       }

@@ -189,10 +189,10 @@ product-whole f x y a b v w h =
       minus = unlike (v .minus) (w .minus);
       size = v .size * w .size;
       value =
-        subst (λ (z : Float). HasValue z (unlike (v .minus) (w .minus)) (v .size * w .size) 1)
-        (sym (mul-value f x y (v .minus) (w .minus) (v .size) (w .size) (v .value) (w .value)))
-        (round-whole f (unlike (v .minus) (w .minus)) (v .size * w .size) (subst (λ (n : ℕ). n ≤ 2 ^ prec f) sizes h));
-      is = ap (λ (z : ℤ). z *ℤ b) (v .is) ∙ ap (λ (z : ℤ). signed (v .minus) (v .size) *ℤ z) (w .is) ∙ signed-product (v .minus) (w .minus) (v .size) (w .size)
+          subst (λ (z : Float). HasValue z (unlike (v .minus) (w .minus)) (v .size * w .size) 1)
+          (sym (mul-value f x y (v .minus) (w .minus) (v .size) (w .size) (v .value) (w .value)))
+          (round-whole f (unlike (v .minus) (w .minus)) (v .size * w .size) (subst (λ (n : ℕ). n ≤ 2 ^ prec f) sizes h));
+      is = ap (λ (z : ℤ). z *ℤ b) (v .is) ∙ ap (λ (z : ℤ). signed (v .minus) (v .size) *ℤ z) (w .is) ∙ signed-product (v .minus) (w .minus) (v .size) (w .size);
     }
   where
     sizes : natAbs a * natAbs b ≡ v .size * w .size

@@ -52,7 +52,7 @@ held c =
     let p = start c .pre in
     record {
       is = head c .loop .inv .3;
-      few = λ k h. column-few (now (a .z)) (now (a .b)) (a .by) (a .count) (p .1 .1 .0) (p .1 .1 .1) (rows c) k (all-rows c) (p .0 .0) h
+      few = λ k h. column-few (now (a .z)) (now (a .b)) (a .by) (a .count) (p .1 .1 .0) (p .1 .1 .1) (rows c) k (all-rows c) (p .0 .0) h;
     }
 
 held-16 : (c : tie.After-halve Inv-loop2 μ-loop2 Inv-loop μ-loop) → Hold (halved 16 (v (c .before))) (c .halve .last .1 .0) 16 65504
@@ -124,13 +124,12 @@ loop2-again c =
     let inv = i .loop2 .inv in
     let room : o .loop .m + 32 ≤ a .count = omega arith in
     let rows : o .loop .m ≡ 32 * (o .loop .m / 32) = omega arith in
-    let low : i .loop2 .l < 32 = omega arith in
-    (
+    let low : i .loop2 .l < 32 = omega arith in (
       omega arith,
       length-set (i .loop2 .columns) (i .loop2 .l) _ ∙ inv .1,
       some-more (i .loop2 .columns) _ _ (i .loop2 .l) _ (inv .1) low
-        (column-turn (now (a .z)) (now (a .b)) (a .by) (a .count) (s .pre .1 .1 .0) (s .pre .1 .1 .1) (o .loop .m) (i .loop2 .l) (o .loop .m / 32) _ rows room (s .pre .0 .0) low (inv .2 .1 (i .loop2 .l) (omega arith) low))
-        (inv .2),
+          (column-turn (now (a .z)) (now (a .b)) (a .by) (a .count) (s .pre .1 .1 .0) (s .pre .1 .1 .1) (o .loop .m) (i .loop2 .l) (o .loop .m / 32) _ rows room (s .pre .0 .0) low (inv .2 .1 (i .loop2 .l) (omega arith) low))
+          (inv .2),
     )
 
 add-m : tie.Need-add-m Inv-loop2 μ-loop2 Inv-loop μ-loop
@@ -145,8 +144,7 @@ loop-again c =
     let o = i .before .before in
     let inv = i .loop2 .inv in
     let all : i .loop2 .l ≡ 32 = omega arith in
-    let rows : o .loop .m / 32 + 1 ≡ (o .loop .m + 32) / 32 = omega arith in
-    (
+    let rows : o .loop .m / 32 + 1 ≡ (o .loop .m + 32) / 32 = omega arith in (
       omega arith,
       omega arith,
       inv .1,
@@ -191,11 +189,11 @@ returns c =
     let p = start f .pre in
     last-two _ (q .halve4 .last .1 .0) 2 524032 (held-2 q) (omega arith) refl
     ∙ ap (ofInt binary32)
-      (total-halved 2 (halved 4 (halved 8 (halved 16 (v f))))
-      ∙ total-halved 4 (halved 8 (halved 16 (v f)))
-      ∙ total-halved 8 (halved 16 (v f))
-      ∙ total-halved 16 (v f)
-      ∙ together (now (a .z)) (now (a .b)) (a .by) (a .count) (p .1 .1 .0) (p .1 .1 .1) (rows f) (all-rows f))
+    (total-halved 2 (halved 4 (halved 8 (halved 16 (v f))))
+    ∙ total-halved 4 (halved 8 (halved 16 (v f)))
+    ∙ total-halved 8 (halved 16 (v f))
+    ∙ total-halved 16 (v f)
+    ∙ together (now (a .z)) (now (a .b)) (a .by) (a .count) (p .1 .1 .0) (p .1 .1 .1) (rows f) (all-rows f))
 
 pub dot-spec : {M : Type 1} → statement M
 dot-spec =

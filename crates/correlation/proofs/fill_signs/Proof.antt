@@ -41,8 +41,7 @@ signs-of-requires c κs =
     let s = c .before .before .before .before .before .before .before .before in
     let code = c .before .before .before .before .before .before .code-of in
     let few = period-is (s .args .burst) (code .result) (code .ensures) in
-    let powers = c .before .before .before .fill-elements .ensures in
-    (
+    let powers = c .before .before .before .fill-elements .ensures in (
       (run-room _ _ _ _ powers, search needs, few .1 .1),
       filled-low (s .args .cell) (s .args .burst) _ _ (code .result .period) powers,
     )

@@ -62,12 +62,11 @@ loop-again c =
     let k = l .loop .k in
     let half = s .args .half in
     let was = now (s .args .columns) in
-    let p = s .pre in
-    (
+    let p = s .pre in (
       omega arith,
       length-set (l .loop .columns) k _ ∙ inv .1,
       store (λ (j : ℕ) (x : Float). x ≡ ofInt binary32 (sampleOf (getD was j nan) +ℤ sampleOf (getD was (j + half) nan))) (l .loop .columns) k _ (omega arith) (inv .2)
-        (sum-of-two was (2 * half) k (k + half) _ _ (p .2) (omega arith) (omega arith) (inv .3 k (omega arith)) (inv .3 (k + half) (omega arith))),
+          (sum-of-two was (2 * half) k (k + half) _ _ (p .2) (omega arith) (omega arith) (inv .3 k (omega arith)) (inv .3 (k + half) (omega arith))),
       (λ j h. getD-set-other (l .loop .columns) k j _ nan (λ same. absurd (omega arith)) ∙ inv .3 j (omega arith)),
     )
 

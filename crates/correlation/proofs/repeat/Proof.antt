@@ -48,13 +48,12 @@ loop-again c =
     let s = l .before in
     let inv = l .loop .inv in
     let i = l .loop .i in
-    let P = s .args .period in
-    (
+    let P = s .args .period in (
       omega arith,
       omega arith,
       length-set (l .loop .out) i _ ∙ inv .2,
       store (λ (m : ℕ) (x : Float). x ≡ getD (now (s .args .out)) (m % P) nan) (l .loop .out) i _ (omega arith) (inv .3)
-        (inv .3 (i - P) (omega arith) ∙ ap (λ (n : ℕ). getD (now (s .args .out)) n nan) (sym (mod-eq-sub-mod (inv .0)))),
+          (inv .3 (i - P) (omega arith) ∙ ap (λ (n : ℕ). getD (now (s .args .out)) n nan) (sym (mod-eq-sub-mod (inv .0)))),
     )
 
 same-length : tie.Need-same-length Inv-loop μ-loop

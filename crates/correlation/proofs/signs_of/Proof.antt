@@ -74,8 +74,7 @@ unfolding signTable ofBits ofInt
 loop-again c =
     let l = c .before .before in
     let s = l .before in
-    let inv = l .loop .inv in
-    (
+    let inv = l .loop .inv in (
       omega arith,
       refl,
       length-set (l .loop .out) (l .loop .i) _ ∙ inv .2,

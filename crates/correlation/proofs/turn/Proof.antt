@@ -174,15 +174,14 @@ loop-again c =
     let l = t .before in
     let s = l .before in
     let inv = l .loop .inv in
-    let row = now (s .args .row) in
-    (
+    let row = now (s .args .row) in (
       room t,
       omega (arith, inv .1),
       four-lengths (l .loop .re) _ _ _ _ _ _ _ _ _ (inv .2),
       four-lengths (l .loop .im) _ _ _ _ _ _ _ _ _ (inv .3),
       record {
         real = real-turn row (s .args .count) (s .pre .1 .1) (l .loop .i) (inv .1) (room t) (l .loop .re) (omega arith) (inv .4 .real);
-        imaginary = imaginary-turn row (s .args .count) (s .pre .1 .1) (l .loop .i) (inv .1) (room t) (l .loop .im) (omega arith) (inv .4 .imaginary)
+        imaginary = imaginary-turn row (s .args .count) (s .pre .1 .1) (l .loop .i) (inv .1) (room t) (l .loop .im) (omega arith) (inv .4 .imaginary);
       },
     )
 

@@ -124,8 +124,7 @@ user-sums-requires c κs =
     let same = chips-are (s .args .burst) _ (code-is l) in
     let far : c .shift .result ≤ 480 = subst (λ (n : ℕ). n ≤ 480) (sym (c .shift .ensures)) (shift-low (s .args .burst) (l .loop .user + 1) (omega arith)) in
     let few = length-high (s .args .burst) in
-    let p = s .pre in
-    (
+    let p = s .pre in (
       (omega arith, thirty-twos (s .args .burst) _ (code-is l), far),
       (
         (omega arith, omega arith, omega arith),
@@ -154,11 +153,10 @@ loop-again c =
     let g = start l .args in
     let inv = l .loop .inv in
     let t = strength-found u (c .before .before .squared .result) (c .before .squared2 .result) (c .before .before .squared .ensures) (c .before .squared2 .ensures) in
-    let sums = sums-of (now (g .re)) (now (g .im)) (now (g .signs)) (g .burst) (g .count) (l .loop .user) in
-    (
+    let sums = sums-of (now (g .re)) (now (g .im)) (now (g .signs)) (g .burst) (g .count) (l .loop .user) in (
       omega arith,
       better (permitted (codeOf (g .burst)) (g .count)) (strengthIn (now (g .re)) (now (g .im)) (now (g .signs)) (g .burst)) (l .loop .user) (l .loop .who) (inv .1)
-        (sym (u .before .before .before .permits .ensures) ∙ u .before .before .if1 .taken) (omega (arith, inv .2, t .0, c .if2 .taken)),
+          (sym (u .before .before .before .permits .ensures) ∙ u .before .before .if1 .taken) (omega (arith, inv .2, t .0, c .if2 .taken)),
       t .0,
       real-found u ∙ ap (λ (z : ℤ × ℤ). ofInt binary32 (z .0)) (sym sums),
       imaginary-found u ∙ ap (λ (z : ℤ × ℤ). ofInt binary32 (z .1)) (sym sums),
@@ -173,11 +171,10 @@ loop-again-2 c =
     let l = head u in
     let g = start l .args in
     let inv = l .loop .inv in
-    let t = strength-found u (c .before .before .squared .result) (c .before .squared2 .result) (c .before .before .squared .ensures) (c .before .squared2 .ensures) in
-    (
+    let t = strength-found u (c .before .before .squared .result) (c .before .squared2 .result) (c .before .before .squared .ensures) (c .before .squared2 .ensures) in (
       omega arith,
       no-better (permitted (codeOf (g .burst)) (g .count)) (strengthIn (now (g .re)) (now (g .im)) (now (g .signs)) (g .burst)) (l .loop .user) (l .loop .who) (inv .1)
-        (sym (u .before .before .before .permits .ensures) ∙ u .before .before .if1 .taken) (omega (arith, inv .2, t .0, c .if2 .left)),
+          (sym (u .before .before .before .permits .ensures) ∙ u .before .before .if1 .taken) (omega (arith, inv .2, t .0, c .if2 .left)),
       inv .2,
       inv .3,
       inv .4,
@@ -190,8 +187,7 @@ loop-again-3 : tie.Need-loop-again-3 Inv-loop μ-loop
 loop-again-3 c =
     let l = c .before .before .before in
     let g = start l .args in
-    let inv = l .loop .inv in
-    (
+    let inv = l .loop .inv in (
       omega arith,
       not-permitted (permitted (codeOf (g .burst)) (g .count)) (strengthIn (now (g .re)) (now (g .im)) (now (g .signs)) (g .burst)) (l .loop .user) (l .loop .who) (inv .1) (sym (c .before .permits .ensures) ∙ c .if1 .left),
       inv .2,

@@ -118,8 +118,7 @@ slice-aggregate-turn-2 c = search needs
 turn-requires : tie.Need-turn-requires
 turn-requires c κs =
     let n = chips (c .before .before .before .before .before) in
-    let far = long (c .before .before .before .before .before) (c .before .before .before .before .if1 .left) in
-    (
+    let far = long (c .before .before .before .before .before) (c .before .before .before .before .if1 .left) in (
       (n .0, n .1, n .0, n .0),
       (omega (arith, far, n .2), good (c .before .before .before .before .before) (c .before .before .before .before .if1 .left) (c .before .before .before .bad-samples .result) (c .before .before .before .bad-samples .ensures) (c .before .before .if2 .left)),
     )
@@ -145,8 +144,7 @@ best-heard-requires c κs =
     let n = chips q in
     let few : codeOf (start q .args .burst) .length ≤ 512 = length-high (start q .args .burst) in
     let turned = c .before .before .before .before .before .before .before .before .turn .ensures in
-    let two = turned-samples _ _ _ (codeOf (start q .args .burst) .length) (subst (λ (k : ℕ). Turned (now (start q .args .row)) k (c .before .before .before .before .before .before .before .before .turn .last .1 .1 .0) (c .before .before .before .before .before .before .before .before .turn .last .1 .1 .1 .0)) (n .2) turned) in
-    (
+    let two = turned-samples _ _ _ (codeOf (start q .args .burst) .length) (subst (λ (k : ℕ). Turned (now (start q .args .row)) k (c .before .before .before .before .before .before .before .before .turn .last .1 .1 .0) (c .before .before .before .before .before .before .before .before .turn .last .1 .1 .1 .0)) (n .2) turned) in (
       (search needs, search needs, search needs),
       (two .0, two .1, are-signs (start q .args .cell) (start q .args .burst) 992 992 _ (c .before .before .before .before .fill-signs .ensures) (omega arith)),
     )

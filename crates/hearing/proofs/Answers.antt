@@ -29,7 +29,7 @@ use Rattle.hearing.specs.declared.HearAnswer.{HearAnswer}
 use Rattle.hearing.specs.declared.HearAnswer.the-variants as hear
 use Rattle.hearing.specs.Hearing.{strength, loudest}
 use Rattle.hearing.specs.Calls.{Heard, somebody, hearRefusals, heardOf, whoIsHeard, hearAnswer, saidHear}
-use Rattle.hearing.specs.Inside.{sumsIn, sumsAt, strengthIn, loudestIn, heardIn}
+use Rattle.hearing.specs.Inside.{sumsIn, sumsAt, strengthIn, loudestIn, heardAs, heardIn}
 
 -- ---- the loudest is the same for strengths that are the same
 loudest-same : (may : ℕ → Bool) (f g : ℕ → ℕ) → ((k : ℕ) → f k ≡ g k) → (n : ℕ) → loudest may f n ≡ loudest may g n
@@ -54,7 +54,7 @@ module _ (cell burst count : ℕ) (row re im signs : List Float) (turned : Turne
   strength-same (suc k) = ap (λ (z : ℤ × ℤ). natAbs (z .0) * natAbs (z .0) + natAbs (z .1) * natAbs (z .1)) (sums-are k)
 
   heard-same : (k : ℕ) → heardIn re im signs burst k ≡ heardOf cell burst row k
-  unfolding heardIn heardOf f32Of
+  unfolding heardAs heardOf f32Of
   heard-same zero = refl
   heard-same (suc k) = λ j. somebody (suc k) (ofInt binary32 (sums-are k j .0)) (ofInt binary32 (sums-are k j .1))
 

@@ -26,8 +26,7 @@ use Rattle.hearing.specs.declared.HearAnswer.{HearAnswer}
 use Rattle.hearing.specs.declared.HearAnswer.the-variants as hear
 use Rattle.hearing.specs.Hearing.{loudest}
 use Rattle.hearing.specs.Calls.{Heard, nobody, somebody, saidHear}
-use Rattle.hearing.specs.Inside.{square, sumsIn, sumsAt, strengthIn, loudestIn, heardIn}
-use Rattle.hearing.proofs.Square.{square-size}
+use Rattle.hearing.specs.Inside.{square, sumsIn, sumsAt, strengthIn, loudestIn, heardAs, heardIn}
 
 -- ---- one user more
 module _ (may : ℕ → Bool) (heard : ℕ → ℕ) (u who : ℕ) (so-far : who ≡ loudest may heard u) where
@@ -88,11 +87,8 @@ module _ (re im signs : List Float) (burst user by chips : ℕ) (known : 1 ≤ u
       let i : sampleOf x ≡ z = ap sampleOf p ∙ reads (ofInt binary32 z) z (whole-is binary32 z (omega arith)) in
       (p ∙ ap (ofInt binary32) (sym i), subst (λ (y : ℤ). natAbs y ≤ 1048064) (sym i) h)
 
-  gives : (z : ℤ) (x : Float) (r : ℕ) → natAbs z ≤ 1048064 → x ≡ ofInt binary32 z → r ≡ square (sampleOf x) → (r ≡ square z) × (r ≤ 1098438148096)
-  gives z x r h p q =
-      let i : sampleOf x ≡ z = ap sampleOf p ∙ reads (ofInt binary32 z) z (whole-is binary32 z (omega arith)) in
-      let same : r ≡ square z = q ∙ ap square i in
-      (same, omega (arith, square-size (natAbs z) h))
+  reads-as : (z : ℤ) (x : Float) → natAbs z ≤ 1048064 → x ≡ ofInt binary32 z → square (sampleOf x) ≡ square z
+  reads-as z x h p = ap square (ap sampleOf p ∙ reads (ofInt binary32 z) z (whole-is binary32 z (omega arith)))
 
   pub real-asks : (s .re ≡ ofInt binary32 (sampleOf (s .re))) × (natAbs (sampleOf (s .re)) ≤ 1048064)
   real-asks = asks _ (s .re) (sizes .0) real-is
@@ -100,11 +96,8 @@ module _ (re im signs : List Float) (burst user by chips : ℕ) (known : 1 ≤ u
   pub imaginary-asks : (s .im ≡ ofInt binary32 (sampleOf (s .im))) × (natAbs (sampleOf (s .im)) ≤ 1048064)
   imaginary-asks = asks _ (s .im) (sizes .1) imaginary-is
 
-  pub strength-is : (x y : ℕ) → x ≡ square (sampleOf (s .re)) → y ≡ square (sampleOf (s .im)) → (x + y ≡ square (sumsIn re im signs burst user .0) + square (sumsIn re im signs burst user .1)) × (x ≤ 1098438148096) × (y ≤ 1098438148096)
-  strength-is x y p q =
-      let a = gives _ (s .re) x (sizes .0) real-is p in
-      let b = gives _ (s .im) y (sizes .1) imaginary-is q in
-      (omega (arith, a .0, b .0), a .1, b .1)
+  pub strength-is : (r : ℕ) → r ≡ square (sampleOf (s .re)) + square (sampleOf (s .im)) → r ≡ square (sumsIn re im signs burst user .0) + square (sumsIn re im signs burst user .1)
+  strength-is r e = e ∙ ap (λ (n : ℕ). n + square (sampleOf (s .im))) (reads-as _ (s .re) (sizes .0) real-is) ∙ ap (λ (n : ℕ). square (sumsIn re im signs burst user .0) + n) (reads-as _ (s .im) (sizes .1) imaginary-is)
 
 -- ---- the reply
 module _ (re im signs : List Float) (burst count : ℕ) where
@@ -116,14 +109,17 @@ module _ (re im signs : List Float) (burst count : ℕ) where
   unfolding sumsAt
   sums-of u = ap (sumsAt re im signs burst) (add-one u) ∙ ap (sumsIn re im signs burst) (sym (add-one u))
 
-  pub said-nobody : (k who : ℕ) → who ≡ loudestIn re im signs burst count k → who ≡ 0 → saidHear hear.Nobody ≡ answered (heardIn re im signs burst (loudestIn re im signs burst count k))
-  unfolding saidHear heardIn
-  said-nobody k who e z = ap (λ (n : ℕ). answered (heardIn re im signs burst n)) (sym z ∙ e)
+  pub said : (k who : ℕ) (x y : Float) (r : HearAnswer) → who ≡ loudestIn re im signs burst count k → x ≡ ofInt binary32 (sumsAt re im signs burst who .0) → y ≡ ofInt binary32 (sumsAt re im signs burst who .1)
+      → saidHear r ≡ answered (heardAs who x y) → saidHear r ≡ answered (heardIn re im signs burst (loudestIn re im signs burst count k))
+  said k who x y r e p q s =
+      s ∙ (λ j. answered (heardAs who (p j) (q j))) ∙ ap (λ (n : ℕ). answered (heardIn re im signs burst n)) e
 
-  pub said-user : (k who : ℕ) (x y : Float) → who ≡ loudestIn re im signs burst count k → (who ≡ 0 → ⊥) → x ≡ ofInt binary32 (sumsAt re im signs burst who .0) → y ≡ ofInt binary32 (sumsAt re im signs burst who .1)
-      → saidHear (hear.User who x y) ≡ answered (heardIn re im signs burst (loudestIn re im signs burst count k))
-  said-user k who x y e some p q = by who some p q ∙ ap (λ (n : ℕ). answered (heardIn re im signs burst n)) e
-    where
-      by : (n : ℕ) → (n ≡ 0 → ⊥) → x ≡ ofInt binary32 (sumsAt re im signs burst n .0) → y ≡ ofInt binary32 (sumsAt re im signs burst n .1) → saidHear (hear.User n x y) ≡ answered (heardIn re im signs burst n)
-      by zero some p q = absurd (some refl)
-      by (suc n) some p q = unfold saidHear in unfold heardIn in (λ j. answered (somebody (suc n) (p j) (q j)))
+-- the reply, by whether there is a user
+pub said-nobody : (who : ℕ) (x y : Float) → who ≡ 0 → saidHear hear.Nobody ≡ answered (heardAs who x y)
+unfolding saidHear heardAs
+said-nobody who x y z = ap (λ (n : ℕ). answered (heardAs n x y)) (sym z)
+
+pub said-user : (who : ℕ) (x y : Float) → (who ≡ 0 → ⊥) → saidHear (hear.User who x y) ≡ answered (heardAs who x y)
+unfolding saidHear heardAs
+said-user zero x y some = absurd (some refl)
+said-user (suc k) x y some = refl

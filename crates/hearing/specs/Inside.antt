@@ -30,6 +30,10 @@ strengthIn re im signs burst k = square (sumsAt re im signs burst k .0) + square
 abbrev pub loudestIn : List Float → List Float → List Float → ℕ → ℕ → ℕ → ℕ
 loudestIn re im signs burst count k = loudest (permitted (codeOf burst) count) (strengthIn re im signs burst) k
 
-unfoldable pub heardIn : List Float → List Float → List Float → ℕ → ℕ → Heard
-heardIn re im signs burst zero = nobody
-heardIn re im signs burst (suc k) = somebody (suc k) (ofInt binary32 (sumsAt re im signs burst (suc k) .0)) (ofInt binary32 (sumsAt re im signs burst (suc k) .1))
+-- user k with two sums as floats, 0 standing for nobody
+unfoldable pub heardAs : ℕ → Float → Float → Heard
+heardAs zero re im = nobody
+heardAs (suc k) re im = somebody (suc k) re im
+
+abbrev pub heardIn : List Float → List Float → List Float → ℕ → ℕ → Heard
+heardIn re im signs burst k = heardAs k (ofInt binary32 (sumsAt re im signs burst k .0)) (ofInt binary32 (sumsAt re im signs burst k .1))

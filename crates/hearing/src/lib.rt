@@ -1,6 +1,7 @@
 // Who is on the air (document 02, C-18): of received samples, the permitted user whose midamble they hold most of, with the two sums; or nobody.
 ghost use mathlib.Core.Path.{_≡_};
-ghost use Prim.Native.Nat.{_≤_, _*_};
+ghost use Prim.Native.Nat.{_≤_, _+_, _*_};
+ghost use lib.Dec.{ltb};
 ghost use lib.ListN.{length};
 ghost use lib.IntN.{natAbs};
 ghost use lib.Ieee.{binary32, ofInt};
@@ -9,7 +10,7 @@ ghost use Rattle.codes.specs.Codes.{codeOf};
 ghost use Rattle.samples.specs.Samples.{sampleOf};
 ghost use Rattle.correlation.specs.Inside.{Samples, Signs};
 ghost use Rattle.hearing.specs.Calls.{hearAnswer, saidHear};
-ghost use Rattle.hearing.specs.Inside.{square, loudestIn, heardIn};
+ghost use Rattle.hearing.specs.Inside.{square, heardAs, loudestIn, heardIn};
 
 // Who is heard: nobody, or a user with the real and the imaginary sum.
 pub enum HearAnswer {
@@ -27,7 +28,33 @@ fn squared(x: f32) -> u64
     (n * n) as u64
 }
 
-// Who is heard best of the users that a count permits, from the turned samples and the signs of the row: users from 1 up, and a later one only if heard better.
+// How strongly a user is heard: the sum of squares.
+fn strength_of(re: f32, im: f32) -> u64
+    requires { ⌜ (re ≡ ofInt binary32 (sampleOf re)) × (natAbs (sampleOf re) ≤ 1048064) ⌝ }
+    requires { ⌜ (im ≡ ofInt binary32 (sampleOf im)) × (natAbs (sampleOf im) ≤ 1048064) ⌝ }
+    ensures { λ r. ⌜ r ≡ square (sampleOf re) + square (sampleOf im) ⌝ }
+{
+    squared(re) + squared(im)
+}
+
+// Whether a user is heard better than whoever was heard best before: on a tie the lower one stays.
+fn louder(best: u64, strength: u64) -> bool
+    ensures { λ r. ⌜ r ≡ ltb best strength ⌝ }
+{
+    best < strength
+}
+
+// The answer about a user and the two sums; 0 stands for nobody.
+fn answer_of(who: u32, re: f32, im: f32) -> HearAnswer
+    ensures { λ r. ⌜ saidHear r ≡ answered (heardAs who re im) ⌝ }
+{
+    if who == 0 {
+        return HearAnswer::Nobody;
+    }
+    HearAnswer::User(who, re, im)
+}
+
+// Who is heard best of the users that a count permits, from the turned samples and the signs of the row: users from 1 up.
 fn best_heard(burst: u32, count: u32, re: &[f32], im: &[f32], signs: &[f32]) -> HearAnswer
     requires { ⌜ (codeOf burst .length ≤ length (now re)) × (codeOf burst .length ≤ length (now im)) × (992 ≤ length (now signs)) ⌝ }
     requires { ⌜ Samples (now re) (codeOf burst .length) × Samples (now im) (codeOf burst .length) × Signs (now signs) 992 ⌝ }
@@ -48,8 +75,8 @@ fn best_heard(burst: u32, count: u32, re: &[f32], im: &[f32], signs: &[f32]) -> 
             let sums = correlation::user_sums(re, im, signs, by, chips);
             let x = sums.re;
             let y = sums.im;
-            let strength = squared(x) + squared(y);
-            if best < strength {
+            let strength = strength_of(x, y);
+            if louder(best, strength) {
                 who = user;
                 best = strength;
                 real = x;
@@ -57,10 +84,7 @@ fn best_heard(burst: u32, count: u32, re: &[f32], im: &[f32], signs: &[f32]) -> 
             }
         }
     }
-    if who == 0 {
-        return HearAnswer::Nobody;
-    }
-    HearAnswer::User(who, real, imaginary)
+    answer_of(who, real, imaginary)
 }
 
 // Who is on the air in a cell, by burst type and count: of the first 1,024 (type 2: 512) floats of `row`, real then imaginary, chip after chip; further floats are not read.

@@ -7,13 +7,14 @@ use native.Mathlib.Omega.{arith}
 use lib.IntN.{ℤ, natAbs}
 use lib.Ieee.{Float, binary32, ofInt}
 use denote.Ref.{now}
+use borrow.Author.Tests.{ltb-true, ltb-false}
 use Rattle.codes.specs.Codes.{codeOf, permitted}
 use Rattle.codes.specs.declared.Code.{Code}
 use Rattle.codes.proofs.Numbers.{of-codes, small, shift-low, length-high}
 use Rattle.samples.specs.Samples.{sampleOf}
 use Rattle.correlation.specs.declared.Sums.{Sums}
 use Rattle.hearing.specs.Inside.{square, sumsIn, sumsAt, strengthIn, loudestIn}
-use Rattle.hearing.proofs.Best.{better, no-better, not-permitted, real-is, imaginary-is, real-asks, imaginary-asks, strength-is, at-start, sums-of, said-nobody, said-user}
+use Rattle.hearing.proofs.Best.{better, no-better, not-permitted, real-is, imaginary-is, real-asks, imaginary-asks, strength-is, at-start, sums-of, said}
 use Rattle.hearing.proofs.best_heard.Statement.{statement}
 use Rattle.hearing.proofs.best_heard.Tie as tie
 
@@ -79,12 +80,11 @@ module _ (u : tie.After-user-sums Inv-loop μ-loop) where
   imaginary-squares : (found .im ≡ ofInt binary32 (sampleOf (found .im))) × (natAbs (sampleOf (found .im)) ≤ 1048064)
   imaginary-squares = imaginary-asks re im signs burst user _ _ (omega arith) (u .before .shift .ensures) (chips-are burst _ (code-is head)) found (u .user-sums .ensures) (start head .pre .1 .0) (start head .pre .1 .1) (start head .pre .1 .2)
 
-  strength-found : (x y : ℕ) → x ≡ square (sampleOf (found .re)) → y ≡ square (sampleOf (found .im))
-      → (x + y ≡ strengthIn re im signs burst user) × (x ≤ 1098438148096) × (y ≤ 1098438148096)
+  strength-found : (r : ℕ) → r ≡ square (sampleOf (found .re)) + square (sampleOf (found .im)) → r ≡ strengthIn re im signs burst user
   unfolding strengthIn
-  strength-found x y e f =
-      let t = strength-is re im signs burst user _ _ (omega arith) (u .before .shift .ensures) (chips-are burst _ (code-is head)) found (u .user-sums .ensures) (start head .pre .1 .0) (start head .pre .1 .1) (start head .pre .1 .2) x y e f in
-      (t .0 ∙ ap (λ (z : ℤ × ℤ). square (z .0) + square (z .1)) (sym (sums-of re im signs burst 0 (head .loop .user))), t .1, t .2)
+  strength-found r e =
+      strength-is re im signs burst user _ _ (omega arith) (u .before .shift .ensures) (chips-are burst _ (code-is head)) found (u .user-sums .ensures) (start head .pre .1 .0) (start head .pre .1 .1) (start head .pre .1 .2) r e
+      ∙ ap (λ (z : ℤ × ℤ). square (z .0) + square (z .1)) (sym (sums-of re im signs burst 0 (head .loop .user)))
 
 code-of-requires : tie.Need-code-of-requires Inv-loop μ-loop
 code-of-requires c κs = search needs
@@ -132,16 +132,11 @@ user-sums-requires c κs =
       ),
     )
 
-squared-requires : tie.Need-squared-requires Inv-loop μ-loop
-squared-requires c κs = real-squares c
+strength-of-requires : tie.Need-strength-of-requires Inv-loop μ-loop
+strength-of-requires c κs = (real-squares c, imaginary-squares c)
 
-squared-requires-2 : tie.Need-squared-requires-2 Inv-loop μ-loop
-squared-requires-2 c κs = imaginary-squares (c .before)
-
-add-strength : tie.Need-add-strength Inv-loop μ-loop
-add-strength c =
-    let t = strength-found (c .before .before) (c .before .squared .result) (c .squared2 .result) (c .before .squared .ensures) (c .squared2 .ensures) in
-    search needs
+louder-requires : tie.Need-louder-requires Inv-loop μ-loop
+louder-requires c κs = search needs
 
 loop-less : tie.Need-loop-less Inv-loop μ-loop
 loop-less c = search needs
@@ -152,12 +147,12 @@ loop-again c =
     let l = head u in
     let g = start l .args in
     let inv = l .loop .inv in
-    let t = strength-found u (c .before .before .squared .result) (c .before .squared2 .result) (c .before .before .squared .ensures) (c .before .squared2 .ensures) in
+    let t = strength-found u (c .before .before .strength-of .result) (c .before .before .strength-of .ensures) in
     let sums = sums-of (now (g .re)) (now (g .im)) (now (g .signs)) (g .burst) (g .count) (l .loop .user) in (
       omega arith,
       better (permitted (codeOf (g .burst)) (g .count)) (strengthIn (now (g .re)) (now (g .im)) (now (g .signs)) (g .burst)) (l .loop .user) (l .loop .who) (inv .1)
-          (sym (u .before .before .before .permits .ensures) ∙ u .before .before .if1 .taken) (omega (arith, inv .2, t .0, c .if2 .taken)),
-      t .0,
+          (sym (u .before .before .before .permits .ensures) ∙ u .before .before .if1 .taken) (omega (arith, inv .2, t, ltb-true (l .loop .best) (c .before .before .strength-of .result) (sym (c .before .louder .ensures) ∙ c .if2 .taken))),
+      t,
       real-found u ∙ ap (λ (z : ℤ × ℤ). ofInt binary32 (z .0)) (sym sums),
       imaginary-found u ∙ ap (λ (z : ℤ × ℤ). ofInt binary32 (z .1)) (sym sums),
     )
@@ -171,10 +166,10 @@ loop-again-2 c =
     let l = head u in
     let g = start l .args in
     let inv = l .loop .inv in
-    let t = strength-found u (c .before .before .squared .result) (c .before .squared2 .result) (c .before .before .squared .ensures) (c .before .squared2 .ensures) in (
+    let t = strength-found u (c .before .before .strength-of .result) (c .before .before .strength-of .ensures) in (
       omega arith,
       no-better (permitted (codeOf (g .burst)) (g .count)) (strengthIn (now (g .re)) (now (g .im)) (now (g .signs)) (g .burst)) (l .loop .user) (l .loop .who) (inv .1)
-          (sym (u .before .before .before .permits .ensures) ∙ u .before .before .if1 .taken) (omega (arith, inv .2, t .0, c .if2 .left)),
+          (sym (u .before .before .before .permits .ensures) ∙ u .before .before .if1 .taken) (omega (arith, inv .2, t, ltb-false (l .loop .best) (c .before .before .strength-of .result) (sym (c .before .louder .ensures) ∙ c .if2 .left))),
       inv .2,
       inv .3,
       inv .4,
@@ -195,23 +190,17 @@ loop-again-3 c =
       inv .4,
     )
 
+answer-of-requires : tie.Need-answer-of-requires Inv-loop μ-loop
+answer-of-requires c κs = search needs
+
 returns : tie.Need-returns Inv-loop μ-loop
 returns c =
     let l = c .before .before in
     let g = start l .args in
     let last = base-is (g .burst) _ (code-is l) in
     let all : l .loop .user ≡ 2 * codeOf (g .burst) .base = omega arith in
-    said-nobody (now (g .re)) (now (g .im)) (now (g .signs)) (g .burst) (g .count) _ (l .loop .who)
-    (l .loop .inv .1 ∙ ap (loudestIn (now (g .re)) (now (g .im)) (now (g .signs)) (g .burst) (g .count)) all) (c .if3 .taken)
-
-returns-2 : tie.Need-returns-2 Inv-loop μ-loop
-returns-2 c =
-    let l = c .before .before in
-    let g = start l .args in
-    let last = base-is (g .burst) _ (code-is l) in
-    let all : l .loop .user ≡ 2 * codeOf (g .burst) .base = omega arith in
-    said-user (now (g .re)) (now (g .im)) (now (g .signs)) (g .burst) (g .count) _ (l .loop .who) (l .loop .real) (l .loop .imaginary)
-    (l .loop .inv .1 ∙ ap (loudestIn (now (g .re)) (now (g .im)) (now (g .signs)) (g .burst) (g .count)) all) (c .if3 .left) (l .loop .inv .3) (l .loop .inv .4)
+    said (now (g .re)) (now (g .im)) (now (g .signs)) (g .burst) (g .count) _ (l .loop .who) (l .loop .real) (l .loop .imaginary) (c .answer-of .result)
+    (l .loop .inv .1 ∙ ap (loudestIn (now (g .re)) (now (g .im)) (now (g .signs)) (g .burst) (g .count)) all) (l .loop .inv .3) (l .loop .inv .4) (c .answer-of .ensures)
 
 pub best-heard-spec : {M : Type 1} → statement M
 best-heard-spec =
@@ -228,14 +217,13 @@ best-heard-spec =
     shift-requires
     cast-by
     user-sums-requires
-    squared-requires
-    squared-requires-2
-    add-strength
+    strength-of-requires
+    louder-requires
     loop-less
     loop-again
     loop-less-2
     loop-again-2
     loop-less-3
     loop-again-3
-    returns
-    returns-2)
+    answer-of-requires
+    returns)

@@ -36,7 +36,7 @@ minus-one x = *ℤ-negsuc x 0 ∙ ap negℤ (times-one x)
 both : {a b c d : ℤ} → a ≡ c → b ≡ d → _≡_ {A = ℤ × ℤ} (a, b) (c, d)
 both p q = λ j. (p j, q j)
 
-conjugate : (r : ℕ) (v : ℤ × ℤ) → r < 4 → timesConjugate v (pairOf 1 r) ≡ turnedBack r v
+pub conjugate : (r : ℕ) (v : ℤ × ℤ) → r < 4 → timesConjugate v (pairOf 1 r) ≡ turnedBack r v
 unfolding timesConjugate pairOf turnedBack
 conjugate zero v h =
     let x = v .0 in

@@ -14,6 +14,7 @@ use Rattle.midambles.specs.Calls.{chipRefusals, chipAnswer, midambleRefusals, m
 use Rattle.blocks.specs.declared.Place.{Place}
 use Rattle.blocks.specs.Calls.{startAnswer, blockRefusals, blockOutcome}
 use Rattle.signal_card.specs.Calls.{pairRefusals, pairAnswer, pairsRefusals, pairsOutcome}
+use Rattle.hearing.specs.Calls.{hearRefusals, hearAnswer}
 use Rattle.timeslots.specs.Calls.{atRefusals, partsAnswer, atAnswer}
 use Rattle.beacons.specs.Calls.{beaconRefusals, beaconAnswer}
 use Rattle.paging_bits.specs.Bits.{bitsIn, perFrame}
@@ -74,6 +75,13 @@ module _ (cell burst count user : ℕ) where
       (answerOf (pairsOutcome cell burst count user a out))
   unfolding answerOf pairsOutcome pairsRefusals userRefusals numbersOf ascending chain
   pairs-exactly a out = exactly _ (pairsRefusals cell burst count user a out) _ refl refl
+
+-- ---- who is on the air, document 02: "1 to 3 and 11, then 24 for a sample outside the rule"
+
+pub hear-exactly : (cell burst count : ℕ) (row : List Float)
+    → Exactly (1 ∷ 2 ∷ 3 ∷ 11 ∷ 24 ∷ []) (hearRefusals cell burst count row) (hearAnswer cell burst count row)
+unfolding hearAnswer hearRefusals numbersOf ascending chain
+hear-exactly cell burst count row = exactly _ (hearRefusals cell burst count row) _ refl refl
 
 -- ---- a timeslot: "2, 6 (factor and direction only), 7, 8, 10"
 

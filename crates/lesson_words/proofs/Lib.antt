@@ -1,4 +1,5 @@
 pub mod Text
 pub mod Digits
 pub mod Reading
+pub mod Sampled
 pub mod Table

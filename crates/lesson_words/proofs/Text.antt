@@ -11,6 +11,7 @@ use lib.Dec.{eqb}
 use lib.ListN.{length, take, drop, getD, drop-of-length-le}
 use lib.Seq.{drop-cons, drop-drop}
 use Rattle.lesson_words.specs.Words.{until, isInk, isBlankByte, inkOf, wordIn, restOf, sameText}
+use Rattle.lesson_words.specs.Inside.{behindWords}
 
 module _ (p : ℕ → Bool) (l : List ℕ) (i w : ℕ) where
   -- the test holds here
@@ -55,6 +56,22 @@ module _ (l : List ℕ) (at from to : ℕ) (start : from ≡ at + until isInk (d
   word-at =
       let e : to - from ≡ until isBlankByte (drop from l) = omega (arith, end) in
       ap (λ (k : ℕ). take k (drop from l)) e ∙ sym (ap (λ (m : List ℕ). take (until isBlankByte m) m) ink-at)
+
+-- no word is passed
+pub behind-start : (n : ℕ) (text : List ℕ) → behindWords (n - 0) (drop 0 text) ≡ behindWords n text
+behind-start n text = let k : n - 0 ≡ n = omega arith in ap (λ (j : ℕ). behindWords j text) k
+
+-- i of n words are passed, up to place `at`
+module _ (text w : List ℕ) (n i at : ℕ) (inv : behindWords (n - i) (drop at text) ≡ w) where
+  pub behind-on : (to : ℕ) → i < n → drop to text ≡ restOf (drop at text) → behindWords (n - (i + 1)) (drop to text) ≡ w
+  unfolding behindWords
+  behind-on to h rest =
+      let k : n - i ≡ suc (n - (i + 1)) = omega (arith, h) in
+      ap (λ (l : List ℕ). behindWords (n - (i + 1)) l) rest ∙ sym (ap (λ (j : ℕ). behindWords j (drop at text)) k) ∙ inv
+
+  pub behind-end : n ≤ i → drop at text ≡ w
+  unfolding behindWords
+  behind-end h = let k : n - i ≡ 0 = omega (arith, h) in sym (ap (λ (j : ℕ). behindWords j (drop at text)) k) ∙ inv
 
 and-false : (b : Bool) → (b && false) ≡ false
 and-false true = refl

@@ -11,6 +11,11 @@ use Rattle.lesson_words.specs.Words.{wordIn, restOf, sameText}
 abbrev pub Near : ℕ → ℕ → Type 0
 Near a b = (a ≡ b) ⊎ ((4294967296 ≤ a) × (4294967296 ≤ b))
 
+-- what stands behind the first n words of a text
+unfoldable pub behindWords : ℕ → List ℕ → List ℕ
+behindWords zero l = l
+behindWords (suc n) l = behindWords n (restOf l)
+
 -- a table has so many calls, each with its name and the kinds of its words: the number of the call of this name, counted from 0; the count, where there is none
 unfoldable pub numberIn : ℕ → List ℕ → List ℕ → ℕ
 numberIn zero name table = 0

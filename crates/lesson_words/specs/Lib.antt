@@ -1,3 +1,4 @@
 pub mod Words
 pub mod Numbers
+pub mod Samples
 pub mod Inside

@@ -31,8 +31,8 @@ fn grown(value: u64, digit: u8) -> u64
     v
 }
 
-// One or more of the digits 0 to 9, of at most 4294967295.
-fn number(word: &[u8]) -> Meaning
+// One or more of the digits 0 to 9, of at most 4294967295. Public for `samples`.
+pub fn number(word: &[u8]) -> Meaning
     ensures { λ r. ⌜ r ≡ numeralOf (now (word .entry)) ⌝ }
 {
     if word.len() == 0 {

@@ -4,7 +4,7 @@ ghost use mathlib.Core.Path.{_≡_};
 ghost use Prim.Native.Nat.{_+_, _-_, _≤_};
 ghost use lib.ListN.{length, take, drop};
 ghost use Rattle.lesson_words.specs.Words.{isByte, isBlankByte, isInk, until, wordIn, restOf, sameText};
-ghost use Rattle.lesson_words.specs.Inside.{numberIn, kindsIn};
+ghost use Rattle.lesson_words.specs.Inside.{numberIn, kindsIn, behindWords};
 
 // The first place from `from` on that holds a byte, or the end. Public for the crate bench.
 pub fn find(bytes: &[u8], from: usize, byte: u8) -> usize
@@ -72,6 +72,20 @@ pub fn word(text: &[u8], at: usize) -> Span
     let from = word_start(text, at);
     let to = word_end(text, from);
     Span { from, to }
+}
+
+// The place behind the first words, so many; the end of the text, where there are fewer. Public for the crate bench.
+pub fn behind(text: &[u8], count: usize) -> usize
+    ensures { λ r. ⌜ (r ≤ length (now (text .entry))) × (drop r (now (text .entry)) ≡ behindWords count (now (text .entry))) ⌝ }
+{
+    let mut at = 0;
+    let mut i = 0;
+    while i < count {
+        let w = word(text, at);
+        at = w.to;
+        i += 1;
+    }
+    at
 }
 
 // Whether two texts are the same.

@@ -1,5 +1,5 @@
 -- docs/LESSONS.md, its table: the reply to a call that is answered in numbers, as the line of the table in `replies::said` and the numbers in it;
--- and what blocks and the calls for the signal card answer, before it is written as a line. Cited by the promises here. Assumes nothing.
+-- and what blocks, the calls for the signal card and `hear` answer, before it is written as a line. Cited by the promises here. Assumes nothing.
 use mathlib.Core.Bool.{cond}
 use mathlib.Core.List.{List}
 use Prim.Native.Nat.{ℕ}
@@ -11,6 +11,7 @@ use Rattle.midambles.specs.Calls.{chipAnswer}
 use Rattle.blocks.specs.declared.Place.{Place}
 use Rattle.blocks.specs.Calls.{blockOutcome}
 use Rattle.signal_card.specs.Calls.{pairAnswer, pairsOutcome}
+use Rattle.hearing.specs.Calls.{Heard, hearAnswer}
 use Rattle.beacons.specs.Calls.{beaconAnswer}
 use Rattle.paging.specs.Paging.{Owner, reserved, owned}
 use Rattle.paging.specs.Calls.{ownerAnswer}
@@ -83,6 +84,10 @@ pairAsked v = pairAnswer (v .first) (v .second) (v .third) (v .fourth) (v .fifth
 -- "`pairs CELL TYPE COUNT USER LEVEL`", likewise, into a row
 unfoldable pub pairsAsked : Values → List Float → Outcome ℕ (List Float)
 pairsAsked v row = pairsOutcome (v .first) (v .second) (v .third) (v .fourth) (v .fifth) row
+
+-- "`hear CELL TYPE COUNT SAMPLE ..`", likewise: the three numbers, and the row of samples
+unfoldable pub hearAsked : Values → List Float → Answer Heard
+hearAsked v row = hearAnswer (v .first) (v .second) (v .third) row
 
 -- "`beacon CASE K`"
 unfoldable pub beaconAsked : Values → Reply

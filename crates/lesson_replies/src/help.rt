@@ -17,6 +17,7 @@ pub fn help(out: &mut [u8; 4096], at: usize) -> usize {
             block CELL TYPE COUNT USER PLACE LENGTH block N and N chips, those behind the first PLACE, as many as LENGTH bytes take\n\
             pair CELL TYPE COUNT USER I LEVEL       pair RE IM, for the signal card at a level of 1 to 2047\n\
             pairs CELL TYPE COUNT USER LEVEL        pairs and RE IM of every chip\n\
+            hear CELL TYPE COUNT SAMPLE ..          nobody, or user K RE IM: who is heard best in the samples, and the two sums\n\
             parts TYPE up|down FACTOR TFCI TPC      parts, seven START+LENGTH, bits B1 B2\n\
             at TYPE up|down FACTOR TFCI TPC CHIP    data1, tfci1, midamble, tpc, tfci2, data2 or guard, and N\n\
             beacon CASE K                           beacon and one or two timeslots\n\
@@ -27,6 +28,6 @@ pub fn help(out: &mut [u8; 4096], at: usize) -> usize {
             help                                    this table\n\
             COUNT and LONG are 16, 8 or 4, for type 2 COUNT and SHORT 6 or 3; in open 0 stands for 8 and 3. Users are 1 to the count, under 4 only 1, 3, 5 and 7.\n\
             In one timeslot a seat books one direction, type 2 apart from types 1 and 3, and no leaf of a code twice.\n\
-            A call that is refused says 'refused N:' and why. SETTINGS and BITS are words of the digits 0 and 1. '#' starts a comment.\n",
+            A call that is refused says 'refused N:' and why. SETTINGS and BITS are words of the digits 0 and 1. A SAMPLE is 1 to 6 digits, behind a minus sign or not: RE then IM, chip after chip. '#' starts a comment.\n",
     )
 }

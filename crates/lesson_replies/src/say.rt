@@ -119,6 +119,7 @@ pub fn expected(out: &mut [u8; 4096], at: usize, number: u64, call: u32) -> usiz
             block CELL TYPE COUNT USER PLACE LENGTH\n\
             pair CELL TYPE COUNT USER I LEVEL\n\
             pairs CELL TYPE COUNT USER LEVEL\n\
+            hear CELL TYPE COUNT SAMPLE ..\n\
             parts TYPE up|down FACTOR TFCI TPC\n\
             at TYPE up|down FACTOR TFCI TPC CHIP\n\
             beacon CASE K\n\

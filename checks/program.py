@@ -1,4 +1,4 @@
-"""The command ./bench beside what it says: exit status, files, --echo, a terminal, byte order marks, input and output that fail, and where it is called from.
+"""The command ./bench beside what it says: exit status, files, --echo, a terminal, byte order marks, samples, input and output that fail, and where it is called from.
 
     python3 checks/program.py TEMPORARY-FOLDER
 
@@ -52,7 +52,8 @@ def statuses():
     ended('no line at all', run(), 0, b'')
     ended('an unknown word', run(given=b'beacon 2 6\nfrobnicate\nbeacon 2 6\n'), 1)
     ended('a missing word', run(given=b'beacon 2\n'), 1)
-    ended('a line that is too long', run(given=b'#' + b'x' * 1023 + b'\n'), 1)
+    ended('a line that is too long', run(given=b'#' + b'x' * 8191 + b'\n'), 1)
+    ended('and one that is just short enough', run(given=b'beacon 2 6#' + b'x' * 8180 + b'\n'), 0, b'beacon 6 14\n')
     ended('quit is no call where nobody types', run(given=b'quit\n'), 1)
 
 
@@ -88,13 +89,13 @@ def echo():
     holds('each line stands with its number before its reply', lines[:6] == [b'1> # a plan', b'2> ', b'3> open 3 0 1 0 0 0   # seat 3', b'ok', b'4> list 3', b'list 0'], lines)
     holds('also the last', lines[6] == b'5> frobnicate' and lines[7].startswith(b'line 5: '), lines)
     ended('and no line behind the last LF', run('--echo', given=b'beacon 2 6\n'), 0, b'1> beacon 2 6\nbeacon 6 14\n')
-    long = run('--echo', given=b'#' * 2000).stdout
-    holds('of a line that is too long so much that it can be seen', long.startswith(b'1> ' + b'#' * 1024 + b'\nline 1: '), long)
+    long = run('--echo', given=b'#' * 10000).stdout
+    holds('of a line that is too long so much that it can be seen', long.startswith(b'1> ' + b'#' * 8192 + b'\nline 1: '), long)
 
 
 def marks():
     ended('a byte order mark at the start is passed over', run(given=MARK + b'beacon 2 6\n'), 0, b'beacon 6 14\n')
-    ended('and no line is shorter for it', run(given=MARK + b'beacon 2 6' + b' ' * 1013 + b'\n'), 0, b'beacon 6 14\n')
+    ended('and no line is shorter for it', run(given=MARK + b'beacon 2 6' + b' ' * 8181 + b'\n'), 0, b'beacon 6 14\n')
     ended('once', run(given=MARK + MARK + b'beacon 2 6\n'), 1)
     ended('not further on', run(given=b'beacon 2 6\n' + MARK + b'beacon 2 6\n'), 1)
     ended('half of one is none', run(given=MARK[:2] + b'beacon 2 6\nbeacon 2 6'), 1)
@@ -113,6 +114,24 @@ def marks():
     holds('a short first line is answered before more comes', select.select([process.stdout], [], [], 30)[0] and process.stdout.readline() == b'beacon 6 14\n')
     os.close(given[1])
     holds('and the lesson ends', process.wait(30) == 0)
+
+
+def air():
+    """Samples: what the program writes it hears again, and what is no sample is no call."""
+    for asked, call, reply in ((b'pairs 7 1 4 5 2047', b'hear 7 1 4', b'user 5 1048064 0\n'), (b'pairs 7 2 6 6 1', b'hear 7 2 3', b'user '), (b'pairs 7 2 6 2 999', b'hear 7 2 6', b'user 2 255744 0\n')):
+        row = run(given=asked).stdout.removeprefix(b'pairs')
+        ran = run(given=call + row)
+        holds(f'{call!r} with what {asked!r} gives', ran.returncode == 0 and ran.stdout.startswith(reply), ran.stdout)
+    for word, reply in ((b'0', b'nobody'), (b'-0', b'nobody'), (b'000000', b'nobody'), (b'2048', b'refused 24: '), (b'-999999', b'refused 24: ')):
+        ran = run(given=b'hear 0 2 6' + (b' ' + word) * 512)
+        holds(f'{word!r} is a sample', ran.returncode == 0 and ran.stdout.startswith(reply), ran.stdout)
+    for word in (b'+5', b'-', b'--1', b'1-', b'1.5', b'1234567', b'0000005', b'-1000000', b'x', b'up'):
+        ended(f'{word!r} is no sample', run(given=b'hear 0 2 6 ' + word), 1)
+        ended(f'nor is {word!r} where it would not be read', run(given=b'hear 0 2 6' + b' 0' * 600 + b' ' + word), 1)
+    ended('1,100 samples', run(given=b'hear 0 2 6' + b' 0' * 1100), 0, b'nobody\n')
+    ended('and no more', run(given=b'hear 0 2 6' + b' 0' * 1101), 1)
+    ended('a number is missing', run(given=b'hear 0 2'), 1)
+    ended('a number that is none', run(given=b'hear 0 2 -6' + b' 0' * 512), 1)
 
 
 def failures():
@@ -201,6 +220,6 @@ def elsewhere():
 
 
 if __name__ == '__main__':
-    for part in (statuses, arguments, files, echo, marks, failures, terminal, elsewhere):
+    for part in (statuses, arguments, files, echo, marks, air, failures, terminal, elsewhere):
         part()
     print(f'program: {tried} things tried of ./bench, all as it says')

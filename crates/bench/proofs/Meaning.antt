@@ -52,15 +52,18 @@ unfolding wordedBy
 worded-above call kinds rest b h =
     same-both (fits kinds rest) b ∙ ap (λ (x : Book). cond (fits kinds rest) x b) (made-other call (valuesOf kinds rest) b b h refl)
 
--- a call of the table, and a name that it does not have
-module _ (table name rest : List ℕ) (b r : Book) (number : ℕ) (n : number ≡ numberIn 19 name table) where
-  pub tabled-none : number ≡ 19 → r ≡ b → r ≡ tabledBy table name rest b
-  unfolding tabledBy
-  tabled-none h e = e ∙ worded-above (numberIn 19 name table) (kindsIn 19 name table) rest b (omega (arith, n, h))
+pub worded-other : (call : ℕ) (kinds rest : List ℕ) (b : Book) (k : ℕ) → 4 ≤ k → call ≡ k → b ≡ wordedBy call kinds rest b
+worded-other call kinds rest b k h e = worded-above call kinds rest b (omega (arith, h, e))
 
-  pub tabled-one : (kinds : List ℕ) → kinds ≡ kindsIn 19 name table → r ≡ wordedBy number kinds rest b → r ≡ tabledBy table name rest b
+-- a call of the table, and a name that it does not have
+module _ (table name rest : List ℕ) (b r : Book) (number : ℕ) (n : number ≡ numberIn 20 name table) where
+  pub tabled-none : number ≡ 20 → r ≡ b → r ≡ tabledBy table name rest b
   unfolding tabledBy
-  tabled-one kinds k e = e ∙ ap (λ (i : ℕ). wordedBy i kinds rest b) n ∙ ap (λ (l : List ℕ). wordedBy (numberIn 19 name table) l rest b) k
+  tabled-none h e = e ∙ worded-above (numberIn 20 name table) (kindsIn 20 name table) rest b (omega (arith, n, h))
+
+  pub tabled-one : (kinds : List ℕ) → kinds ≡ kindsIn 20 name table → r ≡ wordedBy number kinds rest b → r ≡ tabledBy table name rest b
+  unfolding tabledBy
+  tabled-one kinds k e = e ∙ ap (λ (i : ℕ). wordedBy i kinds rest b) n ∙ ap (λ (l : List ℕ). wordedBy (numberIn 20 name table) l rest b) k
 
 -- the table's first entry is the one, or the next is asked
 entry : (n i : ℕ) (name rest : List ℕ) (b : Book) (table word kinds next : List ℕ) → wordIn table ≡ word → wordIn (restOf table) ≡ kinds → restOf (restOf table) ≡ next
@@ -80,7 +83,7 @@ entry n i name rest b table word kinds next e k m =
 
 -- the program's table, and what follows its first, second, third and fourth entry
 abbrev table : List ℕ
-table = bytes "open nnnnnn book nndnnnnnn cancel nnnn close n list n summary nn chip nnnnn midamble nnnn block nnnnnn pair nnnnnn pairs nnnnn parts ndnnn at ndnnnn beacon nn indicator nnnn page nnr read nnr owner nnn help"
+table = bytes "open nnnnnn book nndnnnnnn cancel nnnn close n list n summary nn chip nnnnn midamble nnnn block nnnnnn pair nnnnnn pairs nnnnn hear nnn parts ndnnn at ndnnnn beacon nn indicator nnnn page nnr read nnr owner nnn help"
 
 abbrev after1 : List ℕ
 after1 = restOf (restOf table)
@@ -99,29 +102,29 @@ module _ (name rest : List ℕ) (b : Book) where
   abbrev at-call : ℕ → List ℕ → ℕ → Book
   at-call n l i = wordedBy (i + numberIn n name l) (kindsIn n name l) rest b
 
-  first : at-call 19 table 0 ≡ cond (isText "open" name) (wordedBy 0 (bytes "nnnnnn") rest b) (at-call 18 after1 1)
+  first : at-call 20 table 0 ≡ cond (isText "open" name) (wordedBy 0 (bytes "nnnnnn") rest b) (at-call 19 after1 1)
   unfolding isText wordIn restOf inkOf until isInk isBlankByte
-  first = entry 18 0 name rest b table _ _ _ refl refl refl
+  first = entry 19 0 name rest b table _ _ _ refl refl refl
 
-  second : at-call 18 after1 1 ≡ cond (isText "book" name) (wordedBy 1 (bytes "nndnnnnnn") rest b) (at-call 17 after2 2)
+  second : at-call 19 after1 1 ≡ cond (isText "book" name) (wordedBy 1 (bytes "nndnnnnnn") rest b) (at-call 18 after2 2)
   unfolding isText wordIn restOf inkOf until isInk isBlankByte
-  second = entry 17 1 name rest b after1 _ _ _ refl refl refl
+  second = entry 18 1 name rest b after1 _ _ _ refl refl refl
 
-  third : at-call 17 after2 2 ≡ cond (isText "cancel" name) (wordedBy 2 (bytes "nnnn") rest b) (at-call 16 after3 3)
+  third : at-call 18 after2 2 ≡ cond (isText "cancel" name) (wordedBy 2 (bytes "nnnn") rest b) (at-call 17 after3 3)
   unfolding isText wordIn restOf inkOf until isInk isBlankByte
-  third = entry 16 2 name rest b after2 _ _ _ refl refl refl
+  third = entry 17 2 name rest b after2 _ _ _ refl refl refl
 
-  fourth : at-call 16 after3 3 ≡ cond (isText "close" name) (wordedBy 3 (bytes "n") rest b) (at-call 15 after4 4)
+  fourth : at-call 17 after3 3 ≡ cond (isText "close" name) (wordedBy 3 (bytes "n") rest b) (at-call 16 after4 4)
   unfolding isText wordIn restOf inkOf until isInk isBlankByte
-  fourth = entry 15 3 name rest b after3 _ _ _ refl refl refl
+  fourth = entry 16 3 name rest b after3 _ _ _ refl refl refl
 
   -- a line by its first word
   pub named-table : tabledBy table name rest b ≡ namedLine name rest b
   unfolding tabledBy namedLine madeLine wordedBy madeBy askedBy
   named-table =
-      let z : numberIn 19 name table ≡ 0 + numberIn 19 name table = omega arith in
-      let others : at-call 15 after4 4 ≡ b = sym (worded-above (4 + numberIn 15 name after4) (kindsIn 15 name after4) rest b (omega arith)) in
-      ap (λ (i : ℕ). wordedBy i (kindsIn 19 name table) rest b) z ∙ first
+      let z : numberIn 20 name table ≡ 0 + numberIn 20 name table = omega arith in
+      let others : at-call 16 after4 4 ≡ b = sym (worded-above (4 + numberIn 16 name after4) (kindsIn 16 name after4) rest b (omega arith)) in
+      ap (λ (i : ℕ). wordedBy i (kindsIn 20 name table) rest b) z ∙ first
       ∙ ap (λ (x : Book). cond (isText "open" name) (wordedBy 0 (bytes "nnnnnn") rest b) x)
       (second ∙ ap (λ (x : Book). cond (isText "book" name) (wordedBy 1 (bytes "nndnnnnnn") rest b) x)
       (third ∙ ap (λ (x : Book). cond (isText "cancel" name) (wordedBy 2 (bytes "nnnn") rest b) x)

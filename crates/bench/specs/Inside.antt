@@ -18,6 +18,6 @@ madeBy call v b = cond (ltb call 4) (askedBy call v b .book) b
 unfoldable pub wordedBy : ℕ → List ℕ → List ℕ → Book → Book
 wordedBy call kinds rest b = cond (fits kinds rest) (madeBy call (valuesOf kinds rest) b) b
 
--- the call of this name in a table of nineteen
+-- the call of this name in a table of twenty
 unfoldable pub tabledBy : List ℕ → List ℕ → List ℕ → Book → Book
-tabledBy table name rest b = wordedBy (numberIn 19 name table) (kindsIn 19 name table) rest b
+tabledBy table name rest b = wordedBy (numberIn 20 name table) (kindsIn 20 name table) rest b

@@ -34,6 +34,6 @@ bare line = take (until (isByte 35) line) line
 unfoldable pub bookAfterLine : List ℕ → Book → Book
 bookAfterLine line b = namedLine (wordIn (bare line)) (restOf (bare line)) b
 
--- a line is gathered in so many places, and "a line longer than 1,023 bytes" fills them all: it is no call
+-- a line is gathered in so many places, and "a line longer than 8,191 bytes" fills them all: it is no call
 unfoldable pub gatheredLine : ℕ → List ℕ → Book → Book
 gatheredLine held line b = cond (ltb held (length line)) (bookAfterLine (take held line) b) b

@@ -4,6 +4,7 @@ ghost use Rattle.bench.specs.Lines.{namedLine, bookAfterLine};
 ghost use Rattle.bench.specs.Inside.{madeBy, wordedBy, tabledBy};
 use crate::book_calls;
 use classbook::Book;
+use lesson_replies::air_calls;
 use lesson_replies::beacon_calls;
 use lesson_replies::card_calls;
 use lesson_replies::help;
@@ -16,6 +17,7 @@ use lesson_replies::summary_calls;
 use lesson_replies::timeslot_calls;
 use lesson_words::numbers;
 use lesson_words::numbers::Values;
+use lesson_words::samples;
 use lesson_words::words;
 
 // A line was answered: the place of the next byte of output, and the book as it now is.
@@ -28,9 +30,9 @@ pub struct Turn {
 fn numbered(call: u32, v: Values) -> Reply {
     match call {
         6 => midamble_calls::chip(v),
-        12 => timeslot_calls::at_chip(v),
-        13 => beacon_calls::beacon(v),
-        14 => paging_calls::indicator(v),
+        13 => timeslot_calls::at_chip(v),
+        14 => beacon_calls::beacon(v),
+        15 => paging_calls::indicator(v),
         _ => paging_calls::owner(v),
     }
 }
@@ -44,10 +46,10 @@ fn asking(out: &mut [u8; 4096], at: usize, call: u32, v: Values, row: &[u8], b: 
         8 => midamble_calls::block(out, at, v),
         9 => card_calls::pair(out, at, v),
         10 => card_calls::pairs(out, at, v),
-        11 => timeslot_calls::parts(out, at, v),
-        15 => paging_calls::row(out, at, false, v, row),
-        16 => paging_calls::row(out, at, true, v, row),
-        18 => help::help(out, at),
+        12 => timeslot_calls::parts(out, at, v),
+        16 => paging_calls::row(out, at, false, v, row),
+        17 => paging_calls::row(out, at, true, v, row),
+        19 => help::help(out, at),
         _ => replies::said(out, at, numbered(call, v)),
     }
 }
@@ -66,6 +68,23 @@ fn made(out: &mut [u8; 4096], at: usize, call: u32, v: Values, row: &[u8], b: Bo
     Turn { at: n, book: b }
 }
 
+// The number of `hear` in the table below: behind the words of its kinds stand samples.
+const HEAR: u32 = 11;
+
+// `hear`: its numbers are read, and its samples into a row of as many as a line may have.
+fn heard(out: &mut [u8; 4096], at: usize, number: u64, kinds: &[u8], rest: &[u8]) -> usize {
+    let end = words::behind(rest, kinds.len());
+    let line = numbers::read(&rest[..end], kinds);
+    let mut row = [0.0f32; 1100];
+    let air = samples::read(rest, end, &mut row);
+    if !(line.fit & air.fit) {
+        return say::expected(out, at, number, HEAR);
+    }
+    let v = line.values;
+    let n = air.count;
+    air_calls::hear(out, at, v, &row[..n])
+}
+
 // A call by its number: its words are read, and must be of these kinds.
 fn worded(
     out: &mut [u8; 4096],
@@ -78,6 +97,10 @@ fn worded(
 ) -> Turn
     ensures { λ r. ⌜ r .book ≡ wordedBy call (now (kinds .entry)) (now (rest .entry)) b ⌝ }
 {
+    if call == HEAR {
+        let n = heard(out, at, number, kinds, rest);
+        return Turn { at: n, book: b };
+    }
     let line = numbers::read(rest, kinds);
     if !line.fit {
         let n = say::expected(out, at, number, call);
@@ -89,7 +112,7 @@ fn worded(
     made(out, at, call, v, &rest[from..to], b)
 }
 
-// A line by its first word, in a table of nineteen calls.
+// A line by its first word, in a table of twenty calls.
 fn tabled(
     out: &mut [u8; 4096],
     at: usize,
@@ -101,8 +124,8 @@ fn tabled(
 ) -> Turn
     ensures { λ r. ⌜ r .book ≡ tabledBy (now (table .entry)) (now (name .entry)) (now (rest .entry)) b ⌝ }
 {
-    let found = words::look_up(name, table, 19);
-    if found.number == 19 {
+    let found = words::look_up(name, table, 20);
+    if found.number == 20 {
         let n = say::unknown(out, at, number, name);
         return Turn { at: n, book: b };
     }
@@ -111,7 +134,7 @@ fn tabled(
     worded(out, at, number, found.number, &table[from..to], rest, b)
 }
 
-// The table of calls, each with the kinds of its words: `n` a number, `d` a direction, `r` a row. `help` is the last and has none.
+// The table of calls, each with the kinds of its words: `n` a number, `d` a direction, `r` a row; behind those of `hear` stand samples. `help` is the last and has none.
 fn named(out: &mut [u8; 4096], at: usize, number: u64, name: &[u8], rest: &[u8], b: Book) -> Turn
     ensures { λ r. ⌜ r .book ≡ namedLine (now (name .entry)) (now (rest .entry)) b ⌝ }
 {
@@ -121,7 +144,7 @@ fn named(out: &mut [u8; 4096], at: usize, number: u64, name: &[u8], rest: &[u8],
         number,
         name,
         rest,
-        b"open nnnnnn book nndnnnnnn cancel nnnn close n list n summary nn chip nnnnn midamble nnnn block nnnnnn pair nnnnnn pairs nnnnn parts ndnnn at ndnnnn beacon nn indicator nnnn page nnr read nnr owner nnn help",
+        b"open nnnnnn book nndnnnnnn cancel nnnn close n list n summary nn chip nnnnn midamble nnnn block nnnnnn pair nnnnnn pairs nnnnn hear nnn parts ndnnn at ndnnnn beacon nn indicator nnnn page nnr read nnr owner nnn help",
         b,
     )
 }

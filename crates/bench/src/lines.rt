@@ -8,7 +8,7 @@ use classbook::Book;
 use lesson_replies::say;
 use lesson_words::words;
 
-// What goes on from line to line: the book; how many lines there were; how many bytes of the next one are gathered, 1024 standing for any that are too many;
+// What goes on from line to line: the book; how many lines there were; how many bytes of the next one are gathered, 8192 standing for any that are too many;
 // the place of the next byte of output; and whether each line is written before its reply.
 pub struct Session {
     pub book: Book,
@@ -56,11 +56,11 @@ pub fn waiting(out: &mut [u8; 4096], s: Session, typed: bool) -> Session
 }
 
 // Puts bytes behind those of the line that are there, as far as there is room.
-fn gathered(line: &mut [u8; 1024], held: usize, bytes: &[u8]) -> usize {
+fn gathered(line: &mut [u8; 8192], held: usize, bytes: &[u8]) -> usize {
     let mut n = held;
     let mut i = 0;
     while i < bytes.len() {
-        if n < 1024 {
+        if n < 8192 {
             line[n] = bytes[i];
             n += 1;
         }
@@ -93,12 +93,12 @@ fn reply(line: &[u8], held: usize, out: &mut [u8; 4096], at: usize, number: u64,
     if held < line.len() {
         return calls::answer(out, at, number, &line[..held], b);
     }
-    let n = say::no_call(out, at, number, b": longer than 1023 bytes\n");
+    let n = say::no_call(out, at, number, b": longer than 8191 bytes\n");
     Turn { at: n, book: b }
 }
 
 // The line that is gathered is answered, and the next one begins.
-fn answered(line: &[u8; 1024], held: usize, out: &mut [u8; 4096], s: Session) -> Session
+fn answered(line: &[u8; 8192], held: usize, out: &mut [u8; 4096], s: Session) -> Session
     ensures { λ r. ⌜ r .book ≡ gatheredLine held (now (line .entry)) (s .book) ⌝ }
 {
     let b = s.book;
@@ -130,7 +130,7 @@ fn holding(s: Session, held: usize) -> Session
 }
 
 // Answers every line that ends in these bytes and keeps what is left.
-pub fn block(bytes: &[u8], line: &mut [u8; 1024], out: &mut [u8; 4096], s: Session) -> Session {
+pub fn block(bytes: &[u8], line: &mut [u8; 8192], out: &mut [u8; 4096], s: Session) -> Session {
     let mut t = s;
     let mut from = 0;
     while from < bytes.len() {
@@ -146,7 +146,7 @@ pub fn block(bytes: &[u8], line: &mut [u8; 1024], out: &mut [u8; 4096], s: Sessi
 }
 
 // Nothing more comes. At the end of the input a line may stand that has no LF; what is left of one anywhere else is none.
-pub fn last(line: &[u8; 1024], out: &mut [u8; 4096], s: Session, ended: bool) -> Session {
+pub fn last(line: &[u8; 8192], out: &mut [u8; 4096], s: Session, ended: bool) -> Session {
     let held = s.length;
     if ended & (held > 0) {
         return answered(line, held, out, s);

@@ -50,7 +50,7 @@ fn echo_asked() -> bool {
 }
 
 // A session has begun: no mark stands before its first line, where the input may have one.
-fn begun(line: &mut [u8; 1024], out: &mut [u8; 4096]) -> Session {
+fn begun(line: &mut [u8; 8192], out: &mut [u8; 4096]) -> Session {
     let s = lines::start(echo_asked());
     if libc::isatty(libc::STDIN_FILENO) == 1 {
         return s;
@@ -97,7 +97,7 @@ fn next(block: &mut [u8], at: usize, typed: bool) -> isize {
 // Nothing says that the input ends, and a proved loop has to: it counts its reads down from a number that no run uses up.
 fn all(
     block: &mut [u8],
-    line: &mut [u8; 1024],
+    line: &mut [u8; 8192],
     out: &mut [u8; 4096],
     s: Session,
     typed: bool,
@@ -120,7 +120,7 @@ fn all(
 
 fn main() {
     let mut block = io::large_buffer();
-    let mut line = [0u8; 1024];
+    let mut line = [0u8; 8192];
     let mut out = io::buffer();
     let s = begun(&mut line, &mut out);
     let t = all(&mut block, &mut line, &mut out, s, typing());

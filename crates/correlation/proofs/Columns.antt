@@ -1,23 +1,21 @@
 -- The columns of products, each added in f32: what a turn of the loops makes of them, and what they are together. Cited by the proof of dot.
 -- Assumes nothing.
-use mathlib.Core.Path.{_≡_, refl, sym, ap, _∙_, subst}
+use mathlib.Core.Path.{_≡_, sym, ap, _∙_}
 use mathlib.Core.List.{List}
 use mathlib.Core.Logic.{inl, inr}
-use Prim.Native.Nat.{ℕ, zero, suc, _+_, _-_, _*_, _/_, _%_, _^_, _≤_, _<_}
-use native.Mathlib.Nat.{mul-le-mul, mul-le-mul-right, eq-or-lt-of-le}
-use native.Mathlib.Numerals.{add-one}
+use Prim.Native.Nat.{ℕ, _+_, _-_, _*_, _^_, _≤_, _<_}
+use native.Mathlib.Nat.{mul-le-mul, eq-or-lt-of-le}
 use native.Mathlib.Omega.{arith}
-use lib.Dec.{T}
 use lib.ListN.{getD, length, set}
 use lib.Seq.{getD-set-same, getD-set-other}
-use lib.IntN.{ℤ, pos, natAbs, _+ℤ_, _*ℤ_}
+use lib.IntN.{ℤ, natAbs, _+ℤ_, _*ℤ_}
 use lib.Ieee.{Float, nan, binary32, add, mul, ofInt, ofBits}
 use Rattle.sums.specs.Totals.{total}
 use Rattle.sums.proofs.Totals.{total-size, column, column-none, column-more, column-size, columns}
 use Rattle.floats.specs.Whole.{IsWhole}
 use Rattle.floats.proofs.Whole.{zero-plain}
-use Rattle.floats.proofs.Sums.{sum-exact, product-whole, size-product, whole-is}
-use Rattle.samples.specs.Samples.{isSample, sampleOf}
+use Rattle.floats.proofs.Sums.{sum-exact, product-whole, size-product}
+use Rattle.samples.specs.Samples.{sampleOf}
 use Rattle.samples.proofs.Reading.{sample-is, sample-size}
 use Rattle.correlation.specs.Inside.{Samples, Signs, term, dotOf}
 

@@ -1,15 +1,14 @@
 -- Columns added by halves: their total stays, and each is the float of a whole number. Cited by the proofs of halve and dot.
 -- Assumes nothing.
-use mathlib.Core.Path.{_≡_, refl, sym, ap, _∙_, subst}
+use mathlib.Core.Path.{_≡_, sym, ap, _∙_}
 use mathlib.Core.List.{List}
-use Prim.Native.Nat.{ℕ, zero, suc, _+_, _-_, _*_, _^_, _≤_, _<_}
+use Prim.Native.Nat.{ℕ, _+_, _-_, _*_, _^_, _≤_, _<_}
 use native.Mathlib.Omega.{arith}
 use lib.ListN.{getD}
-use lib.IntN.{ℤ, pos, natAbs, _+ℤ_, +ℤ-idl}
+use lib.IntN.{ℤ, natAbs, _+ℤ_, +ℤ-idl}
 use lib.Ieee.{Float, nan, binary32, add, ofInt}
 use Rattle.sums.specs.Totals.{total}
 use Rattle.sums.proofs.Totals.{size-sum, total-same, total-sum, total-cut}
-use Rattle.floats.specs.Whole.{IsWhole}
 use Rattle.floats.proofs.Sums.{sum-exact, whole-is}
 use Rattle.samples.specs.Samples.{sampleOf}
 use Rattle.samples.proofs.Reading.{reads}

@@ -8,18 +8,17 @@ use native.Mathlib.Nat.{mod-lt}
 use native.Mathlib.Omega.{arith}
 use lib.Dec.{eqb, lit<}
 use lib.ListN.{getD}
-use lib.IntN.{ℤ, pos, negsuc, negℤ, one, _+ℤ_, _-ℤ_, _*ℤ_, *ℤ-one, *ℤ-zero, *ℤ-negsuc, +ℤ-idl, +ℤ-idr, negℤ-negℤ}
+use lib.IntN.{ℤ, pos, negsuc, negℤ, one, _+ℤ_, _-ℤ_, _*ℤ_, *ℤ-one, *ℤ-zero, *ℤ-negsuc, +ℤ-idl, +ℤ-idr}
 use lib.Ieee.{Float, nan}
 use Rattle.sums.specs.Totals.{total}
 use Rattle.sums.proofs.Totals.{total-same, total-minus}
 use Rattle.code_text.specs.Rows.{bitAt}
 use Rattle.codes.specs.Codes.{codeOf, shiftOf}
 use Rattle.codes.proofs.Numbers.{shift-low, length-high}
-use Rattle.elements.specs.Elements.{rowsOf, element}
+use Rattle.elements.specs.Elements.{rowsOf}
 use Rattle.midambles.specs.TrainingSequences.{chipOf}
 use Rattle.signal_card.specs.SignalCard.{pairOf}
 use Rattle.samples.specs.Samples.{sampleOf}
-use Rattle.correlation.specs.declared.Sums.{Sums}
 use Rattle.correlation.specs.Correlation.{sampleAt, timesConjugate, productAt, realSum, imaginarySum}
 use Rattle.correlation.specs.Inside.{back, turnedBack, signAt, term, dotOf, Turned, HoldsSigns}
 use Rattle.correlation.proofs.Turning.{by-remainder, turned-on}

@@ -8,7 +8,7 @@ use native.Mathlib.Nat.{mod-lt, mod-mod}
 use native.Mathlib.Omega.{arith}
 use lib.Dec.{T, eqb, lit<}
 use lib.ListN.{getD, List·getD-append}
-use lib.IntN.{ℤ, pos, negsuc, natAbs}
+use lib.IntN.{pos, negsuc, natAbs}
 use lib.Ieee.{Float, nan, binary32, ofInt}
 use Rattle.laws.specs.Runs.{run}
 use Rattle.laws.proofs.Runs.{run-length, run-at}
@@ -19,7 +19,6 @@ use Rattle.elements.specs.Elements.{rowsOf, turned, element}
 use Rattle.elements.proofs.Repeats.{element-turned}
 use Rattle.samples.specs.Samples.{isSample, sampleOf}
 use Rattle.samples.proofs.Reading.{reads-whole, is-whole}
-use Rattle.correlation.specs.declared.Sums.{Sums}
 use Rattle.correlation.specs.Inside.{signAt, signTable, Signs, HoldsSigns}
 
 -- the table, by the remainder and the bit

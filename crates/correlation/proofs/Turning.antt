@@ -1,25 +1,23 @@
 -- Turning back: four times is once round, so only the remainder by 4 counts; and what each case of the code makes of it. Cited by the proofs of user_sums and turn, and by the crate hearing.
 -- Assumes nothing.
 use mathlib.Core.Path.{_≡_, refl, sym, ap, _∙_, subst}
-use mathlib.Core.Bool.{true}
 use mathlib.Core.List.{List}
 use mathlib.Core.Logic.{inl, inr}
-use Prim.Native.Nat.{ℕ, zero, suc, _+_, _-_, _*_, _%_, _^_, _≤_, _<_}
+use Prim.Native.Nat.{ℕ, zero, suc, _+_, _-_, _*_, _%_, _≤_, _<_}
 use native.Mathlib.Nat.{eq-or-lt-of-le}
 use native.Mathlib.Omega.{arith}
 use lib.Dec.{T}
 use lib.ListN.{length, getD, set, length-set}
 use lib.Seq.{getD-set-same, getD-set-other}
-use lib.IntN.{ℤ, pos, negℤ, natAbs, _-ℤ_, negℤ-negℤ, +ℤ-idl}
+use lib.IntN.{ℤ, pos, negℤ, natAbs, negℤ-negℤ, +ℤ-idl}
 use lib.Ieee.{Float, nan, binary32, ofInt, ofBits, neg, sub}
 use Rattle.sums.proofs.Totals.{size-minus}
 use Rattle.floats.proofs.Whole.{zero-plain}
 use Rattle.floats.proofs.Sums.{whole-is, minus-whole, difference-exact}
 use Rattle.samples.specs.Samples.{isSample, sampleOf}
 use Rattle.samples.proofs.Reading.{sample-is, sample-size, reads, is-one}
-use Rattle.correlation.specs.declared.Sums.{Sums}
 use Rattle.correlation.specs.Correlation.{sampleAt}
-use Rattle.correlation.specs.Inside.{back, turnedBack, sumsOf, Samples, Turned}
+use Rattle.correlation.specs.Inside.{back, turnedBack, sumsOf, Samples}
 
 -- ---- only the remainder counts
 twice : (z : ℤ × ℤ) → back (back (back (back z))) ≡ z

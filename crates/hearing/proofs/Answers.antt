@@ -4,14 +4,13 @@ use mathlib.Core.Path.{_≡_, refl, sym, ap, _∙_, subst}
 use mathlib.Core.Bool.{Bool, true, false, cond, _&&_}
 use mathlib.Core.List.{List, [], _∷_, _++_}
 use Prim.Native.Nat.{ℕ, zero, suc, _+_, _*_, _%_, _≤_, _<_}
-use native.Mathlib.Nat.{zero-lt-suc}
 use native.Mathlib.Omega.{arith}
-use lib.Dec.{T, ltb}
-use lib.ListN.{length, getD}
+use lib.Dec.{ltb}
+use lib.ListN.{length}
 use lib.IntN.{ℤ, natAbs}
-use lib.Ieee.{Float, nan, binary32, ofInt}
+use lib.Ieee.{Float, binary32, ofInt}
 use borrow.Author.Tests.{ltb-false}
-use Rattle.refusals.specs.Refusals.{Refusals, firstOf, answer, answered, refused}
+use Rattle.refusals.specs.Refusals.{Refusals, firstOf, answered}
 use Rattle.refusals.specs.Inside.{orRefused}
 use Rattle.refusals.proofs.First.{first-holds, first-passes, first-none, append-refused, append-passes, reads, reads-row, reads-all, refused-by, answered-by}
 use Rattle.conditions.specs.Conditions.{badCell, badType, badCount, tooShort}
@@ -19,16 +18,15 @@ use Rattle.codes.specs.declared.Code.{Code}
 use Rattle.codes.specs.Codes.{codeOf, permitted}
 use Rattle.codes.proofs.Numbers.{of-codes, length-high}
 use Rattle.signal_card.specs.SignalCard.{f32Of}
-use Rattle.samples.specs.Samples.{isSample, badSamples}
+use Rattle.samples.specs.Samples.{badSamples}
 use Rattle.samples.proofs.Front.{each-sample}
 use Rattle.correlation.specs.Correlation.{realSum, imaginarySum}
-use Rattle.correlation.specs.Inside.{Samples, Signs, Turned, HoldsSigns}
+use Rattle.correlation.specs.Inside.{Samples, Turned, HoldsSigns}
 use Rattle.correlation.proofs.Meaning.{sums-meant}
-use Rattle.correlation.proofs.RowSigns.{are-signs}
 use Rattle.hearing.specs.declared.HearAnswer.{HearAnswer}
 use Rattle.hearing.specs.declared.HearAnswer.the-variants as hear
 use Rattle.hearing.specs.Hearing.{strength, loudest}
-use Rattle.hearing.specs.Calls.{Heard, somebody, hearRefusals, heardOf, whoIsHeard, hearAnswer, saidHear}
+use Rattle.hearing.specs.Calls.{somebody, hearRefusals, heardOf, whoIsHeard, hearAnswer, saidHear}
 use Rattle.hearing.specs.Inside.{sumsIn, sumsAt, strengthIn, loudestIn, heardAs, heardIn}
 
 -- ---- the loudest is the same for strengths that are the same

@@ -3,18 +3,17 @@
 use mathlib.Core.Path.{_≡_, refl, sym, ap, _∙_, subst}
 use mathlib.Core.Bool.{Bool, true, false, cond, _&&_}
 use mathlib.Core.List.{List}
-use Prim.Native.Nat.{ℕ, zero, suc, _+_, _*_, _^_, _≤_, _<_}
-use native.Mathlib.Nat.{zero-lt-suc}
+use Prim.Native.Nat.{ℕ, zero, suc, _+_, _≤_, _<_}
 use native.Mathlib.Numerals.{add-one}
 use native.Mathlib.Omega.{arith}
 use borrow.Author.Tests.{lt-ltb, le-ltb}
-use lib.Dec.{T, ltb, ltb→lt}
-use lib.IntN.{ℤ, pos, natAbs}
+use lib.Dec.{ltb}
+use lib.IntN.{ℤ, natAbs}
 use lib.Ieee.{Float, binary32, ofInt, ofBits}
 use Rattle.floats.proofs.Whole.{zero-plain}
 use Rattle.floats.proofs.Sums.{whole-is}
 use Rattle.refusals.specs.Refusals.{answered}
-use Rattle.codes.specs.Codes.{codeOf, shiftOf, permitted}
+use Rattle.codes.specs.Codes.{codeOf, shiftOf}
 use Rattle.codes.proofs.Numbers.{shift-low, length-high}
 use Rattle.samples.specs.Samples.{sampleOf}
 use Rattle.samples.proofs.Reading.{reads}
@@ -25,7 +24,7 @@ use Rattle.correlation.proofs.Turning.{turned-size}
 use Rattle.hearing.specs.declared.HearAnswer.{HearAnswer}
 use Rattle.hearing.specs.declared.HearAnswer.the-variants as hear
 use Rattle.hearing.specs.Hearing.{loudest}
-use Rattle.hearing.specs.Calls.{Heard, nobody, somebody, saidHear}
+use Rattle.hearing.specs.Calls.{saidHear}
 use Rattle.hearing.specs.Inside.{square, sumsIn, sumsAt, strengthIn, loudestIn, heardAs, heardIn}
 
 -- ---- one user more

@@ -1,9 +1,9 @@
 -- Document 02, C-18: "at 512 chips each sum is below 2 to the power 24", so the two floats of an answer are those whole numbers, nothing rounded, and never minus zero. No function's proof
 -- cites it: it is for the reader. Assumes nothing.
-use mathlib.Core.Path.{_≡_, ap, subst, sym}
+use mathlib.Core.Path.{_≡_, subst, sym}
 use mathlib.Core.Bool.{true, false}
 use mathlib.Core.List.{List, []}
-use Prim.Native.Nat.{ℕ, _+_, _-_, _*_, _^_, _≤_, _<_}
+use Prim.Native.Nat.{ℕ, _+_, _-_, _*_, _≤_, _<_}
 use native.Mathlib.Omega.{arith}
 use lib.ListN.{length, getD}
 use lib.IntN.{ℤ, natAbs}
@@ -16,13 +16,12 @@ use Rattle.codes.specs.Codes.{codeOf, shiftOf}
 use Rattle.codes.proofs.Numbers.{length-high}
 use Rattle.elements.specs.Elements.{rowsOf}
 use Rattle.midambles.specs.TrainingSequences.{chipOf}
-use Rattle.signal_card.specs.SignalCard.{pairOf, f32Of}
+use Rattle.signal_card.specs.SignalCard.{f32Of}
 use Rattle.signal_card.proofs.Parts.{element-below}
 use Rattle.samples.specs.Samples.{sampleOf, badSamples}
 use Rattle.samples.proofs.Reading.{sample-size}
 use Rattle.samples.proofs.Front.{each-sample}
-use Rattle.correlation.specs.Correlation.{sampleAt, timesConjugate, productAt, realSum, imaginarySum}
-use Rattle.correlation.specs.Inside.{turnedBack}
+use Rattle.correlation.specs.Correlation.{sampleAt, productAt, realSum, imaginarySum}
 use Rattle.correlation.proofs.Turning.{turned-size}
 use Rattle.correlation.proofs.Meaning.{conjugate}
 
@@ -42,9 +41,10 @@ module _ (cell burst user : ℕ) (row : List Float) (good : badSamples (2 * code
   pub sums-small : (natAbs (realSum cell burst row user) ≤ 512 * 2047) × (natAbs (imaginarySum cell burst row user) ≤ 512 * 2047)
   unfolding realSum imaginarySum
   sums-small =
-      let few = length-high burst in
-      (omega (arith, total-size (λ (i : ℕ). productAt cell burst row user i .0) 2047 (codeOf burst .length) (λ i low high. product-small i low high .0)),
-      omega (arith, total-size (λ (i : ℕ). productAt cell burst row user i .1) 2047 (codeOf burst .length) (λ i low high. product-small i low high .1)))
+      let few = length-high burst in (
+        omega (arith, total-size (λ (i : ℕ). productAt cell burst row user i .0) 2047 (codeOf burst .length) (λ i low high. product-small i low high .0)),
+        omega (arith, total-size (λ (i : ℕ). productAt cell burst row user i .1) 2047 (codeOf burst .length) (λ i low high. product-small i low high .1)),
+      )
 
   -- each float of an answer is its whole number
   pub sums-exact : HasValue (f32Of (realSum cell burst row user)) (isMinus (realSum cell burst row user)) (natAbs (realSum cell burst row user)) 1

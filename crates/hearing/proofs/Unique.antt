@@ -1,6 +1,6 @@
 -- The call asks nothing, and no second reply could satisfy its promise. `Pre` and `Post` are the contract that rattle reads off the source: at arguments a, reply r and exit s.
 -- A weakened `ensures` fails here. Assumes nothing.
-use mathlib.Core.Path.{_≡_, sym, ap, _∙_}
+use mathlib.Core.Path.{_≡_, sym, _∙_}
 use Rattle.hearing.specs.declared.HearAnswer.{HearAnswer}
 use Rattle.hearing.specs.declared.HearAnswer.the-variants as one
 use Rattle.hearing.specs.Calls.{saidHear}

@@ -22,7 +22,7 @@ use Rattle.lesson_words.specs.declared.numbers.Meaning.{Meaning}
 use Rattle.lesson_words.specs.declared.samples.Sample.{Sample}
 use Rattle.lesson_words.specs.Words.{wordIn, restOf}
 use Rattle.lesson_words.specs.Numbers.{isDigit, valueFrom, isNone, isNumeral, valueIf, numeralOf}
-use Rattle.lesson_words.specs.Samples.{isSize, sizeOf, hasMinus, unsigned, sampleOf, floatOf, areSamples, samplesOf}
+use Rattle.lesson_words.specs.Samples.{isSize, sizeOf, hasMinus, unsigned, sampleWord, floatOf, areSamples, samplesOf}
 
 -- the largest number that n digits behind k give
 most : ℕ → ℕ → ℕ
@@ -126,15 +126,15 @@ abbrev signed : Meaning → Bool → Sample
 signed m t = record { fit = m .fit; size = m .value; minus = t }
 
 module _ (w : List ℕ) (m : Meaning) where
-  pub with-minus : hasMinus w ≡ true → m ≡ sizeOf (take (length w - 1) (drop 1 w)) → signed m true ≡ sampleOf w
-  unfolding sampleOf unsigned
+  pub with-minus : hasMinus w ≡ true → m ≡ sizeOf (take (length w - 1) (drop 1 w)) → signed m true ≡ sampleWord w
+  unfolding sampleWord unsigned
   with-minus e q =
       let d : length (drop 1 w) ≡ length w - 1 = length-drop 1 w in
       ap (λ (x : Meaning). signed x true) (q ∙ ap sizeOf (take-all (length w - 1) (drop 1 w) (omega (arith, d))))
       ∙ sym (ap (λ (t : Bool). signed (sizeOf (cond t (drop 1 w) w)) t) e)
 
-  pub without-minus : hasMinus w ≡ false → m ≡ sizeOf w → signed m false ≡ sampleOf w
-  unfolding sampleOf unsigned
+  pub without-minus : hasMinus w ≡ false → m ≡ sizeOf w → signed m false ≡ sampleWord w
+  unfolding sampleWord unsigned
   without-minus e q = ap (λ (x : Meaning). signed x false) q ∙ sym (ap (λ (t : Bool). signed (sizeOf (cond t (drop 1 w) w)) t) e)
 
 -- as a float
@@ -159,8 +159,8 @@ some-at text l a b h r differ word =
     none-at text l a b h r word ∙ ne-eqb (b - a) 0 (λ z. differ (omega (arith, z, h)))
 
 -- a word is a sample where what was read of it is
-pub fit-at : (word l : List ℕ) (s : Sample) → word ≡ wordIn l → s ≡ sampleOf word → sampleOf (wordIn l) .fit ≡ s .fit
-fit-at word l s e q = ap (λ (w : List ℕ). sampleOf w .fit) (sym e) ∙ sym (ap (λ (x : Sample). x .fit) q)
+pub fit-at : (word l : List ℕ) (s : Sample) → word ≡ wordIn l → s ≡ sampleWord word → sampleWord (wordIn l) .fit ≡ s .fit
+fit-at word l s e q = ap (λ (w : List ℕ). sampleWord w .fit) (sym e) ∙ sym (ap (λ (x : Sample). x .fit) q)
 
 -- nothing is read yet
 module _ (n : ℕ) (l : List ℕ) where
@@ -180,36 +180,36 @@ module _ (n i : ℕ) (l : List ℕ) where
     one-left : n - i ≡ suc (n - (i + 1))
     one-left = omega (arith, h)
 
-    are-split : (t f : Bool) → isNone (wordIn l) ≡ t → sampleOf (wordIn l) .fit ≡ f → areSamples (n - i) l ≡ (t || (f && areSamples (n - (i + 1)) (restOf l)))
+    are-split : (t f : Bool) → isNone (wordIn l) ≡ t → sampleWord (wordIn l) .fit ≡ f → areSamples (n - i) l ≡ (t || (f && areSamples (n - (i + 1)) (restOf l)))
     unfolding areSamples
     are-split t f e q =
         ap (λ (k : ℕ). areSamples k l) one-left
-        ∙ ap (λ (b : Bool). b || (sampleOf (wordIn l) .fit && areSamples (n - (i + 1)) (restOf l))) e
+        ∙ ap (λ (b : Bool). b || (sampleWord (wordIn l) .fit && areSamples (n - (i + 1)) (restOf l))) e
         ∙ ap (λ (b : Bool). t || (b && areSamples (n - (i + 1)) (restOf l))) q
 
-    rows-split : (t : Bool) → isNone (wordIn l) ≡ t → samplesOf (n - i) l ≡ cond t [] (floatOf (sampleOf (wordIn l)) ∷ samplesOf (n - (i + 1)) (restOf l))
+    rows-split : (t : Bool) → isNone (wordIn l) ≡ t → samplesOf (n - i) l ≡ cond t [] (floatOf (sampleWord (wordIn l)) ∷ samplesOf (n - (i + 1)) (restOf l))
     unfolding samplesOf
     rows-split t e =
         ap (λ (k : ℕ). samplesOf k l) one-left
-        ∙ ap (λ (b : Bool). cond b [] (floatOf (sampleOf (wordIn l)) ∷ samplesOf (n - (i + 1)) (restOf l))) e
+        ∙ ap (λ (b : Bool). cond b [] (floatOf (sampleWord (wordIn l)) ∷ samplesOf (n - (i + 1)) (restOf l))) e
 
     -- no word
     pub are-none : (w : Bool) → isNone (wordIn l) ≡ true → areSamples (n - i) l ≡ w → true ≡ w
-    are-none w e inv = sym (are-split true (sampleOf (wordIn l) .fit) e refl) ∙ inv
+    are-none w e inv = sym (are-split true (sampleWord (wordIn l) .fit) e refl) ∙ inv
 
     -- no sample
-    pub are-off : (w : Bool) → isNone (wordIn l) ≡ false → sampleOf (wordIn l) .fit ≡ false → areSamples (n - i) l ≡ w → false ≡ w
+    pub are-off : (w : Bool) → isNone (wordIn l) ≡ false → sampleWord (wordIn l) .fit ≡ false → areSamples (n - i) l ≡ w → false ≡ w
     are-off w e q inv = sym (are-split false false e q) ∙ inv
 
     -- a sample
-    pub are-on : (w : Bool) (rest : List ℕ) → isNone (wordIn l) ≡ false → sampleOf (wordIn l) .fit ≡ true → rest ≡ restOf l → areSamples (n - i) l ≡ w → areSamples (n - (i + 1)) rest ≡ w
+    pub are-on : (w : Bool) (rest : List ℕ) → isNone (wordIn l) ≡ false → sampleWord (wordIn l) .fit ≡ true → rest ≡ restOf l → areSamples (n - i) l ≡ w → areSamples (n - (i + 1)) rest ≡ w
     are-on w rest e q r inv = ap (λ (m : List ℕ). areSamples (n - (i + 1)) m) r ∙ sym (are-split false true e q) ∙ inv
 
     module _ (row w : List Float) (inv : take i row ++ samplesOf (n - i) l ≡ w) where
       pub row-none : isNone (wordIn l) ≡ true → take i row ≡ w
       row-none e = sym (append-nil (take i row)) ∙ sym (ap (λ (m : List Float). take i row ++ m) (rows-split true e)) ∙ inv
 
-      pub row-on : (x : Float) (rest : List ℕ) → i < length row → isNone (wordIn l) ≡ false → x ≡ floatOf (sampleOf (wordIn l)) → rest ≡ restOf l
+      pub row-on : (x : Float) (rest : List ℕ) → i < length row → isNone (wordIn l) ≡ false → x ≡ floatOf (sampleWord (wordIn l)) → rest ≡ restOf l
           → take (i + 1) (set row i x) ++ samplesOf (n - (i + 1)) rest ≡ w
       row-on x rest k e q r =
           let s : List Float = samplesOf (n - (i + 1)) (restOf l) in

@@ -30,8 +30,8 @@ unfoldable pub unsigned : List ℕ → List ℕ
 unsigned w = cond (hasMinus w) (drop 1 w) w
 
 -- "Each is an optional minus sign and 1 to 6 digits"
-unfoldable pub sampleOf : List ℕ → Sample
-sampleOf w = record { fit = sizeOf (unsigned w) .fit; size = sizeOf (unsigned w) .value; minus = hasMinus w }
+unfoldable pub sampleWord : List ℕ → Sample
+sampleWord w = record { fit = sizeOf (unsigned w) .fit; size = sizeOf (unsigned w) .value; minus = hasMinus w }
 
 -- "and `-0` is handed in as a minus zero"
 unfoldable pub floatOf : Sample → Float
@@ -40,9 +40,9 @@ floatOf s = cond (s .minus) (neg (ofInt binary32 (pos (s .size)))) (ofInt binary
 -- every word of a text is a sample, and there are at most so many: "none at all too"
 unfoldable pub areSamples : ℕ → List ℕ → Bool
 areSamples zero l = isNone (wordIn l)
-areSamples (suc n) l = isNone (wordIn l) || (sampleOf (wordIn l) .fit && areSamples n (restOf l))
+areSamples (suc n) l = isNone (wordIn l) || (sampleWord (wordIn l) .fit && areSamples n (restOf l))
 
 -- what is handed in for them, in their order
 unfoldable pub samplesOf : ℕ → List ℕ → List Float
 samplesOf zero l = []
-samplesOf (suc n) l = cond (isNone (wordIn l)) [] (floatOf (sampleOf (wordIn l)) ∷ samplesOf n (restOf l))
+samplesOf (suc n) l = cond (isNone (wordIn l)) [] (floatOf (sampleWord (wordIn l)) ∷ samplesOf n (restOf l))

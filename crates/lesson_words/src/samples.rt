@@ -3,7 +3,7 @@ ghost use mathlib.Core.Path.{_≡_};
 ghost use mathlib.Core.Bool.{true};
 ghost use Prim.Native.Nat.{_≤_};
 ghost use lib.ListN.{length, take, drop};
-ghost use Rattle.lesson_words.specs.Samples.{sizeOf, hasMinus, sampleOf, floatOf, areSamples, samplesOf};
+ghost use Rattle.lesson_words.specs.Samples.{sizeOf, hasMinus, sampleWord, floatOf, areSamples, samplesOf};
 use crate::numbers;
 use crate::numbers::Meaning;
 use crate::words;
@@ -40,7 +40,7 @@ fn has_minus(word: &[u8]) -> bool
 
 // An optional minus sign and 1 to 6 digits.
 fn meant(word: &[u8]) -> Sample
-    ensures { λ r. ⌜ (r ≡ sampleOf (now (word .entry))) × (r .size ≤ 999999) ⌝ }
+    ensures { λ r. ⌜ (r ≡ sampleWord (now (word .entry))) × (r .size ≤ 999999) ⌝ }
 {
     if has_minus(word) {
         let m = size(&word[1..]);

@@ -2,8 +2,8 @@
 -- Assumes nothing.
 use mathlib.Core.Path.{_≡_, refl, sym, ap, _∙_}
 use mathlib.Core.Bool.{Bool, true, false, cond, _&&_}
-use Prim.Native.Nat.{ℕ, zero, suc, _*_, _/_, _%_, _^_, _≤_}
-use native.Mathlib.Nat.{mul-one, mul-le-mul-right, mul-div-cancel, mul-mod-left, div-add-mod', div-lt-iff-lt-mul}
+use Prim.Native.Nat.{ℕ, _*_, _/_, _%_, _≤_}
+use native.Mathlib.Nat.{mul-one, mul-div-cancel, mul-mod-left, div-add-mod'}
 use native.Mathlib.Omega.{arith}
 use lib.Dec.{T, leb, eqb, leb→le, eqb→eq}
 use lib.IntN.{ℤ, pos, negℤ, natAbs}

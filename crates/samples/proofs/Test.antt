@@ -1,14 +1,14 @@
 -- The test of a sample as the code makes it: between two ends, and the same float again once it was added to 3 * 2 ^ 22 and that was taken off. Cited by the proof of is_sample.
 -- Assumes nothing.
 use mathlib.Core.Path.{_≡_, refl, sym, ap, _∙_, subst}
-use mathlib.Core.Bool.{Bool, true, false, not, _&&_, _||_, Bool·beq, cond}
+use mathlib.Core.Bool.{Bool, true, false, _&&_, _||_, Bool·beq, cond}
 use mathlib.Core.Logic.{inl, inr}
-use Prim.Native.Nat.{ℕ, zero, suc, _+_, _-_, _*_, _/_, _%_, _^_, _≤_, _<_}
-use native.Mathlib.Nat.{mul-one, zero-mul, mul-right-comm, eq-of-mul-eq-mul-right, div-add-mod', le-of-lt, le-of-mul-le-mul-right, mul-le-mul-right, eq-or-lt-of-le}
+use Prim.Native.Nat.{ℕ, zero, suc, _+_, _-_, _*_, _^_, _≤_, _<_}
+use native.Mathlib.Nat.{mul-one, zero-mul, mul-right-comm, eq-of-mul-eq-mul-right, le-of-lt, le-of-mul-le-mul-right, mul-le-mul-right, eq-or-lt-of-le}
 use native.Mathlib.Omega.{arith}
-use lib.Dec.{T, ltb, leb, eqb, ltb→lt, lt→ltb, leb→le, eqb→eq}
-use lib.IntN.{ℤ, pos, negsuc, negℤ, natAbs, _+ℤ_, _-ℤ_, +ℤ-comm, +ℤ-negℤ-cancel}
-use lib.Ieee.{Float, nan, inf, fin, binary32, up, down, round, sum, add, sub, ofInt, lt, le, eq}
+use lib.Dec.{T, ltb, eqb, ltb→lt, lt→ltb, eqb→eq}
+use lib.IntN.{ℤ, pos, negsuc, natAbs, _+ℤ_, _-ℤ_, +ℤ-comm, +ℤ-negℤ-cancel}
+use lib.Ieee.{Float, nan, inf, fin, binary32, up, down, round, sum, add, sub, ofInt, le, eq}
 use lib.Ieee.Fits.{down-pos, eq→eqb, and-i, and-l, and-r, add-fits, ofInt-fits}
 use lib.Ieee.Exact.{HasValue}
 use lib.Ieee.Back.{whole-unique}

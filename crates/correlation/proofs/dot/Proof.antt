@@ -1,6 +1,6 @@
 -- `correlation::dot` meets its contract: before each turn every column has the float of its own whole-number sum; then these are added. Assumes nothing.
 use borrow.Author.Needs.{needs}
-use mathlib.Core.Path.{_≡_, refl, sym, ap, _∙_}
+use mathlib.Core.Path.{_≡_, refl, ap, _∙_}
 use Prim.Native.Nat.{ℕ, _+_, _-_, _*_, _/_, _%_, _≤_, _<_}
 use native.Mathlib.Omega.{arith}
 use borrow.Author.Count.{below-none}
@@ -8,9 +8,8 @@ use lib.ListN.{length, getD, replicate, length-set, getD-replicate}
 use lib.IntN.{ℤ}
 use lib.Ieee.{nan, binary32, ofInt, ofBits}
 use denote.Ref.{now}
-use Rattle.sums.specs.Totals.{total}
 use Rattle.sums.proofs.Totals.{column}
-use Rattle.correlation.specs.Inside.{term, dotOf}
+use Rattle.correlation.specs.Inside.{term}
 use Rattle.correlation.proofs.Columns.{Some, some-more, none-yet, column-turn, column-few, together}
 use Rattle.correlation.proofs.Halves.{Hold, halved, total-halved, are-wholes, hold-half, last-two}
 use Rattle.correlation.proofs.dot.Statement.{statement}

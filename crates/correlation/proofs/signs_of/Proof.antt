@@ -1,12 +1,11 @@
 -- `correlation::signs_of` meets its contract: each place has the table's entry for its remainder and its power. Assumes nothing.
 use borrow.Author.Needs.{needs}
 use borrow.Author.Count.{below-none}
-use mathlib.Core.Path.{_≡_, refl, sym, ap, _∙_}
-use mathlib.Core.List.{List}
+use mathlib.Core.Path.{_≡_, refl, _∙_}
 use Prim.Native.Nat.{ℕ, _+_, _-_, _*_, _%_, _≤_, _<_}
 use native.Mathlib.Omega.{arith}
 use lib.ListN.{length, getD, length-set}
-use lib.Ieee.{Float, nan, ofBits, ofInt, neg}
+use lib.Ieee.{Float, nan, ofBits, ofInt}
 use denote.Ref.{now}
 use Rattle.correlation.specs.Inside.{signTable}
 use Rattle.correlation.proofs.Turning.{store}

@@ -1,7 +1,5 @@
 -- `correlation::user_sums` meets its contract: both sums turned back by the remainder of the shift. Assumes nothing.
 use borrow.Author.Needs.{needs}
-use mathlib.Core.Path.{_≡_}
-use Prim.Native.Nat.{_%_}
 use native.Mathlib.Omega.{arith}
 use denote.Ref.{now}
 use Rattle.correlation.proofs.Columns.{dot-size}

@@ -1,6 +1,5 @@
 -- `hearing::strength_of` meets its contract. Assumes nothing.
 use borrow.Author.Needs.{needs}
-use mathlib.Core.Path.{_≡_}
 use native.Mathlib.Omega.{arith}
 use lib.IntN.{natAbs}
 use Rattle.samples.specs.Samples.{sampleOf}

@@ -8,7 +8,7 @@ use borrow.Author.Tests.{eq-eqb, not-true, not-false}
 use denote.Ref.{now}
 use lib.ListN.{length, take, drop, length-set}
 use Rattle.laws.proofs.Bools.{true-false}
-use Rattle.lesson_words.specs.Samples.{sampleOf, floatOf, areSamples, samplesOf}
+use Rattle.lesson_words.specs.Samples.{sampleWord, floatOf, areSamples, samplesOf}
 use Rattle.lesson_words.proofs.Sampled.{none-at, some-at, fit-at, are-start, row-start, are-none, are-off, are-on, are-end, row-none, row-on, row-end}
 use borrow.Author.Needs.{needs}
 use Rattle.lesson_words.proofs.samples.read.Statement.{statement}
@@ -95,7 +95,7 @@ loop-again c =
     let h : l .n < length (now (a .row)) = omega (arith, l .inv .0, k) in
     let e = some-at (now (a .text)) (drop (l .to) (now (a .text))) (w .result .from) (w .result .to) (w .ensures .0) (w .ensures .1) (c .before .before .before .before .before .if1 .left) (w .ensures .2) in
     let q = fit-at _ _ (m .result) (w .ensures .2) (m .ensures .0) ∙ not-false _ (c .before .if2 .left) in
-    let x = c .float .ensures ∙ ap floatOf (m .ensures .0 ∙ ap sampleOf (w .ensures .2)) in (
+    let x = c .float .ensures ∙ ap floatOf (m .ensures .0 ∙ ap sampleWord (w .ensures .2)) in (
       length-set (l .row) (l .n) (c .float .result) ∙ l .inv .0,
       omega (arith, h),
       w .ensures .1,

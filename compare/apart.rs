@@ -139,7 +139,7 @@ fn row(found: &Found) -> String {
 
 /// What stands in the page.
 fn listed(all: &[Found], seen: &Seen) -> String {
-    let mut text = String::from("| type | count | pairs | powers of j of each other | nearest: cell | users | a, b, c, d | (a - c)² + (b - d)² | its root | |\n|---|---|---|---|---|---|---|---|---|---|\n");
+    let mut text = String::from("| type | count | pairs | powers of j of each other | nearest: cell | users | a, b, c, d | (a - c)² + (b - d)² | its root | in dB |\n|---|---|---|---|---|---|---|---|---|---|\n");
     text.extend(all.iter().map(row));
     text += &format!(
         "\nPairs tested: {}, of which {} are different, of {} different midambles.\n\n",

@@ -439,7 +439,7 @@ def hear(cell: int, burst: int, count: int, row: Iterable[float]) -> Optional[He
     row has what was received at each chip of a midamble, real part then imaginary part, chip after chip: at least
     1024 numbers, or 512 for type 2, each whole and from -2047 to 2047; -0.0 reads as 0, and further numbers are not
     read. An array of floats (of the type code 'f', or any other C-contiguous buffer of the format 'f') is lent
-    itself, without a copy unless it is read-only, and nobody may write it meanwhile. Of any other row a row of
+    itself, without a copy unless it is read-only, and no thread may write it meanwhile. Of any other row a row of
     floats is made, and a number that is no such float, as 5.00000001 is none, is not rounded to one, but refused
     with 24. cell, burst and count as for midamble. Refused with 1, 2, 3, 11, 24.
     """

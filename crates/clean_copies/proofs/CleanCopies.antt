@@ -3,7 +3,6 @@
 use mathlib.Core.Path.{_≡_, refl, sym, ap, _∙_}
 use mathlib.Core.Bool.{true, false}
 use mathlib.Core.List.{List, [], _++_}
-use mathlib.Core.Logic.{⊎-elim}
 use Prim.Native.Nat.{ℕ, zero, suc, _*_, _<_, _≤_}
 use native.Mathlib.Nat.{mul-pos}
 use native.Mathlib.Omega.{arith}
@@ -17,7 +16,7 @@ use Rattle.conditions.specs.Conditions.{badCell, badType, badCount, badUser}
 use Rattle.tables.specs.Tables.{userRefusals}
 use Rattle.codes.specs.Codes.{codeOf, permitted}
 use Rattle.codes.proofs.Numbers.{of-codes}
-use Rattle.codes.proofs.Permitted.{user-low, setting}
+use Rattle.codes.proofs.Permitted.{user-low}
 use Rattle.midambles.specs.TrainingSequences.{chipOf, chipsOf}
 use Rattle.signal_card.specs.SignalCard.{pairOf, f32Of, floatsOf}
 use Rattle.signal_card.specs.declared.PairsAnswer.the-variants as wrote
@@ -30,6 +29,7 @@ use Rattle.hearing.specs.declared.HearAnswer.{HearAnswer}
 use Rattle.hearing.specs.declared.HearAnswer.the-variants as heard
 use Rattle.hearing.proofs.Unique.{said-hear-once}
 use Rattle.clean_copies.specs.CleanCopies.{Alone}
+use Rattle.clean_copies.proofs.WhoIsHeard.{user-high}
 use Rattle.clean_copies.proofs.Loudest.{heard-best}
 use Rattle.clean_copies.proofs.Sums.{own-real, own-imaginary, own-strength, other-strength}
 use Rattle.clean_copies.proofs.Rows.{long-enough, good-samples, reads-chips}
@@ -51,10 +51,6 @@ good cell burst count user e =
     let three = first-none 2 (badCount burst count) _ (two .1) in
     let four = first-none 3 (badUser burst count user) [] (three .1) in
     record { cell-good = one .0; type-good = two .0; count-good = three .0; user-good = not-false _ (four .0) }
-
--- a permitted user is at most K = 2K'
-user-high : (burst count user : ℕ) → permitted (codeOf burst) count user ≡ true → user ≤ 2 * codeOf burst .base
-user-high burst count user e = ⊎-elim (λ all. all .1) (⊎-elim (λ f. omega (arith, f .1)) (λ o. omega (arith, o .1 .0))) (setting (codeOf burst) count user e)
 
 -- a midamble has chips, so its user is heard
 some-chips : (burst : ℕ) → 1 ≤ codeOf burst .length

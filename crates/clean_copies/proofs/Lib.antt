@@ -6,3 +6,4 @@ pub mod Counts
 pub mod Sums
 pub mod Rows
 pub mod CleanCopies
+pub mod WhoIsHeard

@@ -16,7 +16,8 @@ use Rattle.midambles.specs.TrainingSequences.{chipOf, chipsOf}
 use Rattle.signal_card.specs.SignalCard.{pairOf, f32Of, realOf, imaginaryOf, floatsOf}
 use Rattle.signal_card.proofs.Parts.{parts-size}
 use Rattle.signal_card.proofs.Rows.{midamble-length, row-at}
-use Rattle.samples.specs.Samples.{isSample, sampleOf, allSamples, badSamples}
+use Rattle.samples.specs.Samples.{isSample, sampleOf, badSamples}
+use Rattle.laws.specs.Lists.{every}
 use Rattle.samples.proofs.Reading.{reads-whole, is-whole}
 use Rattle.correlation.specs.Correlation.{sampleAt}
 
@@ -30,8 +31,8 @@ module _ (level : ℕ) (high : level ≤ 2047) where
   unfolding realOf imaginaryOf f32Of
   chip-reads p = let s = parts-size level p in (reads-whole _ (omega (arith, s .0)), reads-whole _ (omega (arith, s .1)))
 
-  all-samples : (chips : List ℕ) → allSamples (floatsOf level chips) ≡ true
-  unfolding allSamples floatsOf
+  all-samples : (chips : List ℕ) → every isSample (floatsOf level chips) ≡ true
+  unfolding every floatsOf
   all-samples [] = refl
   all-samples (p ∷ chips) = let s = chip-samples p in both (isSample (realOf level p)) _ (s .0) (both (isSample (imaginaryOf level p)) _ (s .1) (all-samples chips))
 
@@ -47,7 +48,7 @@ module _ (level : ℕ) (high : level ≤ 2047) where
     good-samples =
         let n = 2 * codeOf burst .length in
         let taken : take n row ≡ floatsOf level (chipsOf cell burst user) = ap (take n) front ∙ take-at _ rest n (midamble-length cell burst user level) in
-        ap (λ (l : List Float). not (allSamples l)) taken ∙ ap not (all-samples (chipsOf cell burst user))
+        ap (λ (l : List Float). not (every isSample l)) taken ∙ ap not (all-samples (chipsOf cell burst user))
 
     pub reads-chips : (i : ℕ) → 1 ≤ i → i ≤ codeOf burst .length → sampleAt row i ≡ pairOf level (chipOf cell burst user i)
     unfolding sampleAt

@@ -1,5 +1,5 @@
 -- Document 01, "Refusal numbers": the conditions on numbers and on lent memory, 1 to 11 and document 02's 22 and 23, one name for each. Cited by the crate tables and by the calls' tables.
--- Conditions on a seat and on the book (12 to 21) stand in the file of the same name in the crates seats and classbook. Assumes nothing.
+-- Conditions on a seat and on the book (12 to 21) stand in the file of the same name in the crates seats and classbook, 24 on received samples in the crate samples. Assumes nothing.
 use mathlib.Core.Bool.{Bool, true, false, cond, not, _&&_, _||_}
 use mathlib.Core.List.{List}
 use Prim.Native.Nat.{ℕ, _*_}

@@ -1,4 +1,4 @@
--- The columns of products, each added in f32: what a turn of the loops makes of them, and what they are together. Cited by the proof of dot.
+-- The columns of products, each added in f32: what a turn of the loops makes of them, and what they are together. Cited by the proofs of dot and user_sums, and by the crate hearing.
 -- Assumes nothing.
 use mathlib.Core.Path.{_≡_, sym, ap, _∙_}
 use mathlib.Core.List.{List}

@@ -1,4 +1,4 @@
--- The signs of a row, read off its elements' powers of j, and what is left of a chip once its power of j is taken away: the sign. Cited by the proof of fill_signs and by the crate hearing.
+-- The signs of a row, read off its elements' powers of j, and what is left of a chip once its power of j is taken away: the sign. Cited by the proof of fill_signs, by Meaning.antt, and by the crates hearing and correlating.
 -- Assumes nothing.
 use mathlib.Core.Path.{_≡_, refl, sym, ap, _∙_, subst}
 use mathlib.Core.Bool.{Bool, true, false, cond}

@@ -1,4 +1,4 @@
--- Turning back: four times is once round, so only the remainder by 4 counts; and what each case of the code makes of it. Cited by the proofs of user_sums and turn, and by the crate hearing.
+-- Turning back: four times is once round, so only the remainder by 4 counts; and what each case of the code makes of it. Cited by the proofs of this crate and by the crate hearing.
 -- Assumes nothing.
 use mathlib.Core.Path.{_≡_, refl, sym, ap, _∙_, subst}
 use mathlib.Core.List.{List}

@@ -1,5 +1,6 @@
--- Document 02, C-18, "Who is that on the air?": a user's two sums. Whole numbers only: nothing here knows of floats, or of an order in which code adds.
--- Over document 01's chip (crate midambles) and C-12's pair of it (crate signal_card). Cited by the crate hearing. Assumes nothing.
+-- Document 02, C-18, "Who is that on the air?": a user's two sums. Whole numbers only: of floats nothing here knows but how a sample is read, and nothing of the order in which
+-- code adds.
+-- Over document 01's chip (crate midambles) and C-12's pair of it (crate signal_card). Cited by the crates hearing and clean_copies. Assumes nothing.
 use mathlib.Core.List.{List}
 use Prim.Native.Nat.{ℕ, _-_, _*_}
 use lib.ListN.{getD}

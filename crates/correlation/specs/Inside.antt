@@ -28,18 +28,18 @@ turnedBack (suc i) z = back (turnedBack i z)
 unfoldable pub signAt : ℕ → ℕ → ℕ → ℤ
 signAt cell burst i = cond (eqb (bitAt (getD (rowsOf burst) cell []) ((i - 1) % codeOf burst .period)) 1) (pos 1) (negsuc 0)
 
--- the first n floats are samples; and they are signs, 1 or -1
+-- the first n floats are samples; and they are samples of at most 1 in size, as signs are
 pub record Samples (z : List Float) (n : ℕ) : Type 0 where
   pub all : (m : ℕ) → m < n → T (isSample (getD z m nan))
 
 pub record Signs (b : List Float) (n : ℕ) : Type 0 where
   pub all : (m : ℕ) → m < n → T (isSample (getD b m nan)) × (natAbs (sampleOf (getD b m nan)) ≤ 1)
 
--- the first n floats are whole numbers of less than 2 ^ 23, none of them a minus zero
+-- the first n floats are whole numbers of at most 2 ^ 23, none of them a minus zero
 pub record Wholes (z : List Float) (n : ℕ) : Type 0 where
   pub all : (m : ℕ) → m < n → (getD z m nan ≡ ofInt binary32 (sampleOf (getD z m nan))) × (natAbs (sampleOf (getD z m nan)) ≤ 2 ^ 23)
 
--- the sum of n floats, each times the float of another row that stands `by` places further on
+-- a float times the one of another row that stands `by` places further on; and the sum of n of these
 abbrev pub term : List Float → List Float → ℕ → ℕ → ℤ
 term z b by i = sampleOf (getD z (i - 1) nan) *ℤ sampleOf (getD b (by + (i - 1)) nan)
 

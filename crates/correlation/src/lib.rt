@@ -1,7 +1,7 @@
 // A user's two sums (document 02, C-18): each received sample times the conjugate of the user's chip, added in f32, where every step is exact.
 // A chip is a power of j with a sign. The samples are turned back by their powers of j once, for all users; then a user's sums are the turned samples added with the signs of the row,
 // as far on as the user is shifted, and turned back by that shift.
-// Public for the crate hearing, whose call has tested the cell and the samples before.
+// Public for the crate hearing, whose call has tested the cell and the samples before, and for correlating, which measures them.
 ghost use mathlib.Core.Path.{_≡_};
 ghost use Prim.Native.Nat.{ℕ, _≤_, _<_, _+_, _*_, _%_};
 ghost use lib.ListN.{length, getD};

@@ -1,5 +1,5 @@
 // Elements read from the tables of the crate code_rows: one, and a run of them that starts and ends anywhere. Each function fetches its table once and lends a row of it.
-// Public for the crates midambles, blocks and signal_card, whose calls have tested the cell and the chip before.
+// Public for the crates midambles, blocks, signal_card and correlation, whose calls have tested the cell and the chip before.
 mod filling;
 mod reading;
 
@@ -43,7 +43,7 @@ fn fill_long(cell: u32, by: u32, count: usize, out: &mut [u8])
     filling::fill_from(reading::row_of(&t, 57, cell), by as usize, count, out);
 }
 
-// The same of the row that serves a burst type. Public for the crate blocks.
+// The same of the row that serves a burst type. Public for the crates blocks and correlation.
 pub fn fill_elements(cell: u32, burst: u32, by: u32, count: usize, out: &mut [u8])
     requires { ⌜ (cell < 128) × (by < 2048) × (count ≤ 512) × (count ≤ length (now out)) ⌝ }
     ensures { λ _. ⌜ now (out .exit) ≡ run (λ (i : ℕ). element (codeOf burst .period) (getD (rowsOf burst) cell []) (i + by)) count ++ drop count (now (out .entry)) ⌝ }

@@ -1,6 +1,6 @@
--- The law of every step: a whole number's float, up to 2 ^ prec, plus a float that is a whole number is the float of the sum, nothing rounded, and plain zero where the sum is
--- zero. Once, over the format; products and differences beside it. So whatever the order in which code adds, each running float is the float of a whole number.
--- Cited by the crates samples and correlation. Assumes nothing.
+-- The law of every step: a whole number's float, up to 2 ^ prec, plus a float that is a whole number is the float of the sum, and plain zero where the sum is zero; up to 2 ^ prec that
+-- float is the sum itself (Whole.antt). Once, over the format; products and differences beside it. So while sums stay up to 2 ^ prec, each running float is its whole number,
+-- whatever the order in which code adds. Cited by the crates samples, correlation and hearing. Assumes nothing.
 use mathlib.Core.Path.{_≡_, refl, sym, ap, _∙_, subst}
 use mathlib.Core.Bool.{Bool, true, false, not, _&&_, cond}
 use Prim.Native.Nat.{ℕ, zero, suc, _+_, _-_, _*_, _^_, _≤_, _<_}

@@ -1,5 +1,5 @@
 -- Whole numbers as floats: up to 2 ^ prec, which is 2 ^ 24 for f32, the float of a whole number is that number, nothing rounded. Once, over the format.
--- Cited by the crates signal_card, mqarbset_answers and facts. Assumes nothing.
+-- Cited by the crates signal_card, samples, correlation, hearing, mqarbset_answers and facts. Assumes nothing.
 use mathlib.Core.Path.{_≡_, refl, sym, ap, _∙_, subst}
 use mathlib.Core.Bool.{Bool, true, false, not, true≢false}
 use Prim.Native.Nat.{ℕ, zero, suc, _*_, _^_, _≤_, _<_}

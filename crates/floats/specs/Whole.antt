@@ -1,4 +1,4 @@
--- What the laws on whole numbers as floats speak of. Cited by proofs/ and by the crates samples, correlation and facts. Assumes nothing.
+-- What the laws on whole numbers as floats speak of. Cited by proofs/ and by the crates samples, correlation, hearing and facts. Assumes nothing.
 use mathlib.Core.Path.{_≡_}
 use mathlib.Core.Bool.{Bool, true, false}
 use Prim.Native.Nat.{ℕ}

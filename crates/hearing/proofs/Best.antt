@@ -1,4 +1,4 @@
--- One user more: heard better, not better, or not permitted; and the sums, squares and strength of a user as the code finds them. Cited by the proof of best_heard.
+-- One user more: heard better, not better, or not permitted; and the sums, squares and strength of a user as the code finds them. Cited by the proofs of best_heard and answer_of.
 -- Assumes nothing.
 use mathlib.Core.Path.{_≡_, refl, sym, ap, _∙_, subst}
 use mathlib.Core.Bool.{Bool, true, false, cond, _&&_}

@@ -1,4 +1,4 @@
--- A float that is a whole number up to 512 times 2047, as an i64, and its square. Cited by the proof of squared.
+-- A float that is a whole number up to 512 times 2047, as an i64, and its square. Cited by the proofs of squared and strength_of.
 -- Assumes nothing.
 use mathlib.Core.Path.{_≡_, refl, sym, ap, _∙_, subst}
 use Prim.Native.Nat.{ℕ, _*_, _^_, _≤_, _<_}

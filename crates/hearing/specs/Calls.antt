@@ -1,5 +1,5 @@
 -- What the call of document 02's C-18 answers, for all inputs: its refusals, what its enum says, its answer.
--- Cited by the promise of hear. Assumes nothing.
+-- Cited by the promises of hear and mq_hear, and by the crates mqarbset_answers, lesson_replies, facts and clean_copies. Assumes nothing.
 use mathlib.Core.List.{List, [], _∷_}
 use Prim.Native.Nat.{ℕ, zero, suc, _*_}
 use lib.Ieee.{Float}

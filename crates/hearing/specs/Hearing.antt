@@ -1,5 +1,5 @@
 -- Document 02, C-18, "Who is that on the air?": how strongly a user is heard, and whom that names. Whole numbers only.
--- Over a user's two sums (crate correlation). Cited by specs/Calls.antt. Assumes nothing.
+-- Over a user's two sums (crate correlation). Cited by specs/Calls.antt and specs/Inside.antt, and by the crate clean_copies. Assumes nothing.
 use mathlib.Core.Bool.{Bool, cond, _&&_}
 use mathlib.Core.List.{List}
 use Prim.Native.Nat.{ℕ, zero, suc, _+_, _*_}

@@ -28,6 +28,7 @@ pub fn help(out: &mut [u8; 4096], at: usize) -> usize {
             help                                    this table\n\
             COUNT and LONG are 16, 8 or 4, for type 2 COUNT and SHORT 6 or 3; in open 0 stands for 8 and 3. Users are 1 to the count, under 4 only 1, 3, 5 and 7.\n\
             In one timeslot a seat books one direction, type 2 apart from types 1 and 3, and no leaf of a code twice.\n\
-            A call that is refused says 'refused N:' and why. SETTINGS and BITS are words of the digits 0 and 1. A SAMPLE is 1 to 6 digits, behind a minus sign or not: RE then IM, chip after chip. '#' starts a comment.\n",
+            A call that is refused says 'refused N:' and why. SETTINGS and BITS are words of the digits 0 and 1. '#' starts a comment.\n\
+            A SAMPLE is a whole number from -2047 to 2047: RE then IM of each chip, 1024 of them, for type 2 512; further ones are not read.\n",
     )
 }

@@ -119,7 +119,7 @@ pub read-pair : (cell burst count user chip level : ℕ) → pairInC (pairAsC (p
 unfolding pairInC pairAsC pairAnswer
 read-pair cell burst count user chip level = back pairAsC pairInC (λ m e. simp e) _ _ (λ _. refl)
 
--- nobody is no user's number, and no user is number 0
+-- no user has number 0, which stands for nobody
 heard-back : (cell burst : ℕ) (row : List Float) (k : ℕ) → heardInC (heardAsC (answered (heardOf cell burst row k))) ≡ answered (heardOf cell burst row k)
 unfolding heardInC heardAsC heardOf
 heard-back cell burst row zero = refl

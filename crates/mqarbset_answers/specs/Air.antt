@@ -14,6 +14,6 @@ heardAsC (refused n) = record { refusal = n; user = 0; re = f32Of (pos 0); im = 
 heardAsC (answered nobody) = record { refusal = 0; user = 0; re = f32Of (pos 0); im = f32Of (pos 0) }
 heardAsC (answered (somebody k re im)) = record { refusal = 0; user = k; re = re; im = im }
 
--- what a C caller reads: 0 is nobody's refusal number, and no user's
+-- what a C caller reads: 0 is no refusal's number, and no user's
 unfoldable pub heardInC : MqHear → Answer Heard
 heardInC r = cond (eqb (r .refusal) 0) (answered (cond (eqb (r .user) 0) nobody (somebody (r .user) (r .re) (r .im)))) (refused (r .refusal))

@@ -1,12 +1,13 @@
--- Document 02, C-18: what a received float is read as. Cited by the promise of this crate, and by the crates correlation and hearing.
+-- Document 02, C-18: what a received float is read as. Cited by the promises of this crate, and by the crates correlation, hearing and clean_copies.
 -- Assumes nothing.
-use mathlib.Core.Bool.{Bool, true, false, not, cond, _&&_}
-use mathlib.Core.List.{List, [], _∷_}
+use mathlib.Core.Bool.{Bool, false, not, cond, _&&_}
+use mathlib.Core.List.{List}
 use Prim.Native.Nat.{ℕ, _*_, _/_, _%_}
 use lib.Dec.{eqb, leb}
 use lib.ListN.{take}
 use lib.IntN.{ℤ, pos, negℤ}
 use lib.Ieee.{Float, nan, inf, fin, up, down}
+use Rattle.laws.specs.Lists.{every}
 
 -- "Samples are whole numbers from -2047 to 2047": a number, finite, with no fraction and at most so large
 unfoldable pub isSample : Float → Bool
@@ -20,10 +21,6 @@ sampleOf nan = pos 0
 sampleOf (inf minus) = pos 0
 sampleOf (fin minus m e) = let n = pos (m * up e / down e) in cond minus (negℤ n) n
 
-unfoldable pub allSamples : List Float → Bool
-allSamples [] = true
-allSamples (x ∷ rest) = isSample x && allSamples rest
-
 -- 24: "for a sample outside the rule", of the floats that are read, the first n of them
 unfoldable pub badSamples : ℕ → List Float → Bool
-badSamples n row = not (allSamples (take n row))
+badSamples n row = not (every isSample (take n row))

@@ -14,7 +14,7 @@ fn is_sample(x: f32) -> bool
 }
 
 // Whether one of the first `count` floats of a row is no sample. All of them are tested before the answer, so that several can be at once.
-// Public for the crate hearing, whose call has tested the row's length before.
+// Public for the crates hearing and correlating, which have tested the row's length before.
 pub fn bad_samples(row: &[f32], count: usize) -> bool
     requires { ⌜ count ≤ length (now row) ⌝ }
     ensures { λ r. ⌜ r ≡ badSamples count (now (row .entry)) ⌝ }

@@ -1,4 +1,4 @@
--- Laws on totals: term by term, cut in two, in columns, turned round, and how large they are. Cited by the crates correlation and clean_copies.
+-- Laws on totals: term by term, cut in two, in columns, with the other sign, and how large they are. Cited by the crates correlation, hearing and clean_copies.
 -- Assumes nothing.
 use mathlib.Core.Path.{_≡_, refl, sym, ap, _∙_}
 use mathlib.Core.Bool.{Bool, true, false, cond}
@@ -110,7 +110,7 @@ unfolding total
 zeros zero = refl
 zeros (suc n) = ap (λ (z : ℤ). z +ℤ pos 0) (zeros n)
 
--- all columns together are the total: every order of adding gives the same
+-- all columns together are the total
 pub columns : (w : ℕ) (f : ℕ → ℤ) (rows : ℕ) → total (λ (l : ℕ). column w f (l - 1) rows) w ≡ total f (w * rows)
 unfolding total
 columns w f zero =

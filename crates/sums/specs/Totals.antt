@@ -1,4 +1,4 @@
--- A sum of whole numbers, as the definition of a correlation has it.
+-- A sum of whole numbers, as the definition of a correlation has it. Cited by the crates correlation and clean_copies.
 -- Assumes nothing.
 use Prim.Native.Nat.{ℕ, zero, suc}
 use lib.IntN.{ℤ, pos, _+ℤ_}

@@ -6,13 +6,14 @@ use Prim.Native.Nat.{ℕ, _-_, _≤_}
 use native.Mathlib.Omega.{arith}
 use lib.ListN.{take}
 use denote.Ref.{now}
-use Rattle.samples.specs.Samples.{allSamples, badSamples}
+use Rattle.samples.specs.Samples.{badSamples, isSample}
+use Rattle.laws.specs.Lists.{every}
 use Rattle.samples.proofs.Front.{none-yet, one-more}
 use Rattle.samples.proofs.bad_samples.Statement.{statement}
 use Rattle.samples.proofs.bad_samples.Tie as tie
 
 abbrev Inv-loop : tie.InvT-loop
-Inv-loop row count good₀ i₀ good i = (i ≤ count) × (good ≡ allSamples (take i row))
+Inv-loop row count good₀ i₀ good i = (i ≤ count) × (good ≡ every isSample (take i row))
 
 abbrev μ-loop : tie.MeasureT-loop
 μ-loop row count good₀ i₀ good i = count - i
@@ -48,7 +49,7 @@ returns c =
     let l = c .before in
     let s = l .before .before in
     let all : l .loop .i ≡ s .args .count = omega arith in
-    ap not (l .loop .inv .1 ∙ ap (λ (k : ℕ). allSamples (take k (now (s .args .row)))) all)
+    ap not (l .loop .inv .1 ∙ ap (λ (k : ℕ). every isSample (take k (now (s .args .row)))) all)
 
 pub bad-samples-spec : {M : Type 1} → statement M
 bad-samples-spec =

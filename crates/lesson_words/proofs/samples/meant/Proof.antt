@@ -1,7 +1,6 @@
 -- `lesson_words::samples::meant` meets its contract: the digits stand behind the minus sign, if there is one.
 -- Assumes nothing.
 use mathlib.Core.Path.{sym, _∙_}
-use native.Mathlib.Omega.{arith}
 use Rattle.lesson_words.proofs.Sampled.{minus-some, with-minus, without-minus}
 use borrow.Author.Needs.{needs}
 use Rattle.lesson_words.proofs.samples.meant.Statement.{statement}

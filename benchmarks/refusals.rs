@@ -22,7 +22,7 @@ pub fn compare() -> u32 {
 
 pub fn lines() -> Vec<Line> {
     let (mut ours, mut theirs) = ([0; 256], [0; 256]);
-    let inputs = (0..20).flat_map(|_| 1..=23).collect();
+    let inputs = (0..20).flat_map(|_| 1..plain::WORDS.len() as u32).collect();
     let library = move |&number: &u32| library::refusal_text(number, black_box(&mut ours));
     vec![Line::new("refusal text", inputs, library, move |&number| {
         plain::refusal_text(number, black_box(&mut theirs))

@@ -2,7 +2,7 @@
 
 use library::MqAnswer;
 
-const WORDS: [&str; 24] = [
+pub const WORDS: [&str; 25] = [
     "",
     "cell parameter above 127",
     "burst type not 1, 2 or 3",
@@ -27,6 +27,7 @@ const WORDS: [&str; 24] = [
     "no such booking",
     "level not 1 to 2047",
     "place above the midamble length",
+    "sample not a whole number from -2047 to 2047",
 ];
 
 #[inline(never)]

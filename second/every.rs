@@ -36,6 +36,11 @@ pub fn print(out: &mut dyn Write, rows: &Rows) -> io::Result<()> {
     scenarios::all(put)
 }
 
+/// Prints the lines of `second no-calls`.
+pub fn print_no_calls(out: &mut dyn Write, rows: &Rows) -> io::Result<()> {
+    hearing::no_calls(&mut |line| writeln!(out, "{line}"), rows)
+}
+
 /// Every cell, type, count and user, and the numbers just outside; outside the rules cells 0, 127, 128 and the largest
 /// number stand for all.
 fn midambles(put: Put) -> io::Result<()> {

@@ -11,6 +11,7 @@ second: the independent program that the proved library is compared with
 
   second lesson                 answers standard input as docs/LESSONS.md says
   second every                  a lesson of every question that docs/COMPARISON.md lists
+  second no-calls               lines of `hear` that are no call, and others that are longer than a line may be
   second random SEED LINES      a random lesson of that many lines; SEED mod 7 is its mood: 0 modest, 1 damaged,
                                 2 greedy, 3 busy, 4 beacons, 5 scribbled, 6 changing
   second noise SEED BYTES       that many random bytes for the input of a lesson
@@ -57,6 +58,7 @@ fn run(words: &[&str]) -> Result<(), Failure> {
         [] | ["--help"] => out.write_all(USAGE.as_bytes())?,
         ["lesson"] => lesson::run(&mut io::stdin().lock(), &mut out, &kept_rows()?)?,
         ["every"] => every::print(&mut out, &kept_rows()?)?,
+        ["no-calls"] => every::print_no_calls(&mut out, &kept_rows()?)?,
         ["random", seed, lines] => {
             random::print(&mut out, number(seed)?, number(lines)?, &kept_rows()?)?
         }

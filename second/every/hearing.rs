@@ -1,4 +1,4 @@
-//! The questions of who is on the air in `second every`: calls only, no answers.
+//! The questions of who is on the air in `second every`, calls only, and lines of `second no-calls`; no answers.
 
 use super::{Put, LARGEST};
 use crate::calls::MOST_SAMPLES;
@@ -20,10 +20,24 @@ pub fn all(put: Put, rows: &Rows) -> io::Result<()> {
     single_samples(put)?;
     moved_and_turned(put, rows)?;
     numbers_of_samples(put, rows)?;
-    samples_at_the_edge(put, rows)?;
-    odd_words(put, rows)?;
+    at_the_edge(put, rows, &["2047", "2048", "999999"])?;
+    odd_words(put, rows, ODD_SAMPLES)?;
     wrong_numbers(put, rows)?;
-    long_lines(put, rows)
+    for length in [LONGEST_LINE - 1, LONGEST_LINE] {
+        long_lines(put, rows, length)?;
+    }
+    Ok(())
+}
+
+/// Lines that are no call: with a sample too many, with a word that is no sample, and longer than a line may be.
+pub fn no_calls(put: Put, rows: &Rows) -> io::Result<()> {
+    for [burst_type, count] in RIGHT_COUNTS {
+        let samples = copy(rows, 127, burst_type, 3, 1);
+        ask(put, [127, burst_type, count], &repeated(&samples, MOST_SAMPLES + 1))?;
+    }
+    at_the_edge(put, rows, &["1000000"])?;
+    odd_words(put, rows, NO_SAMPLES)?;
+    long_lines(put, rows, LONGEST_LINE + 1)
 }
 
 /// A question with these samples.
@@ -186,14 +200,18 @@ fn moved_and_turned(put: Put, rows: &Rows) -> io::Result<()> {
 /// Type and count, one for each type.
 const RIGHT_COUNTS: [[u32; 2]; 3] = [[1, 16], [2, 6], [3, 4]];
 
-/// None, one and two samples, as many as are read by one type or the other, and as many as a line may have; each with
-/// one less and one more. The samples begin anew where a copy ends.
+/// So many samples, which begin anew where a copy ends.
+fn repeated(samples: &[i64], number: usize) -> Vec<i64> {
+    samples.iter().copied().cycle().take(number).collect()
+}
+
+/// None, one and two samples, as many as are read by one type or the other, each with one less and one more, and as
+/// many as a line may have, with one less.
 fn numbers_of_samples(put: Put, rows: &Rows) -> io::Result<()> {
     for [burst_type, count] in RIGHT_COUNTS {
         let samples = copy(rows, 127, burst_type, 3, 1);
-        for number in [0, 1, 2, 511, 512, 513, 1023, 1024, 1025, 1099, 1100, 1101] {
-            let samples: Vec<i64> = samples.iter().copied().cycle().take(number).collect();
-            ask(put, [127, burst_type, count], &samples)?;
+        for number in [0, 1, 2, 511, 512, 513, 1023, 1024, 1025, MOST_SAMPLES - 1, MOST_SAMPLES] {
+            ask(put, [127, burst_type, count], &repeated(&samples, number))?;
         }
     }
     Ok(())
@@ -208,13 +226,12 @@ fn with_word(put: Put, rows: &Rows, right: [u32; 2], place: usize, word: &str) -
     put(call([127, burst_type, count], &samples))
 }
 
-/// Samples on both sides of the rule, the greatest ones, and those of a digit too many, at the first place, at the last
-/// that is read and at the first that is not.
-fn samples_at_the_edge(put: Put, rows: &Rows) -> io::Result<()> {
+/// Words with and without a minus sign, at the first place, at the last that is read and at the first that is not.
+fn at_the_edge(put: Put, rows: &Rows, words: &[&str]) -> io::Result<()> {
     for right in RIGHT_COUNTS {
         let [burst_type, _] = right;
         for place in [0, needed(burst_type) - 1, needed(burst_type)] {
-            for word in ["2047", "2048", "999999", "1000000"] {
+            for word in words {
                 with_word(put, rows, right, place, word)?;
                 with_word(put, rows, right, place, &format!("-{word}"))?;
             }
@@ -230,9 +247,9 @@ const ODD_SAMPLES: &str = "-0 00 000005 -000005 002048";
 const NO_SAMPLES: &str =
     "0000005 -0000005 1234567 +5 - --1 -+1 5- 1.5 1.0 1e3 0x5 x up inf NaN \u{2212}5";
 
-/// Odd words at the first place and at the first that is not read.
-fn odd_words(put: Put, rows: &Rows) -> io::Result<()> {
-    for word in ODD_SAMPLES.split(' ').chain(NO_SAMPLES.split(' ')) {
+/// Each of these words at the first place and at the first that is not read.
+fn odd_words(put: Put, rows: &Rows, words: &str) -> io::Result<()> {
+    for word in words.split(' ') {
         for place in [0, needed(2)] {
             with_word(put, rows, [2, 3], place, word)?;
         }
@@ -263,23 +280,20 @@ fn wrong_numbers(put: Put, rows: &Rows) -> io::Result<()> {
     Ok(())
 }
 
-/// Lines as long as a line may be, a byte shorter and a byte longer: calls with blanks before them, with a comment
-/// behind them, with samples of six digits, and with a word of many digits; and a line that is a comment.
-fn long_lines(put: Put, rows: &Rows) -> io::Result<()> {
+/// Lines of that length: calls with blanks before them, with a comment behind them, with samples of six digits, and
+/// with a word of many digits; and a line that is a comment.
+fn long_lines(put: Put, rows: &Rows, length: usize) -> io::Result<()> {
     let samples = copy(rows, 127, 1, 16, 2047);
     let heard = call([127, 1, 16], &words(&samples));
-    for length in [LONGEST_LINE - 1, LONGEST_LINE, LONGEST_LINE + 1] {
-        for line in ["chip 0 1 16 8 1", &heard] {
-            put(format!("{}{line}", " ".repeat(length - line.len())))?;
-            put(format!("{line}{}", "#".repeat(length - line.len())))?;
-        }
-        put(with_long_words(&samples, length))?;
-        for call in ["page 1 2 ", "read 2 4 "] {
-            put(format!("{call}{}", "1".repeat(length - call.len())))?;
-        }
-        put("#".repeat(length))?;
+    for line in ["chip 0 1 16 8 1", &heard] {
+        put(format!("{}{line}", " ".repeat(length - line.len())))?;
+        put(format!("{line}{}", "#".repeat(length - line.len())))?;
     }
-    Ok(())
+    put(with_long_words(&samples, length))?;
+    for call in ["page 1 2 ", "read 2 4 "] {
+        put(format!("{call}{}", "1".repeat(length - call.len())))?;
+    }
+    put("#".repeat(length))
 }
 
 /// A call of that length with as many samples as a line may have, each of six digits; as many zeros as it takes have a

@@ -78,3 +78,7 @@ shift-low burst k h =
     let s = small c burst refl in
     let m : (c .base - 1) * c .step ≤ 7 * 64 = mul-le-mul {n₂ = 7} {m₂ = 64} (omega (arith, s .base-high)) (s .step-high) in
     omega (arith, shift-within c k h, s .half-high)
+
+-- no user is shifted as far as a period
+pub shift-in-period : (burst k : ℕ) → 1 ≤ k → shiftOf (codeOf burst) k < codeOf burst .period
+shift-in-period burst k h = omega (arith, shift-within (codeOf burst) k h, of-codes (λ (c : Code). greatest c < c .period) (lit≤ tt) (lit≤ tt) burst)

@@ -1,12 +1,12 @@
 // What benchmarks/run measures: the sums of sixteen users, without the rest of the call. Nothing here is part of the library.
 ghost use Prim.Native.Nat.{_≤_};
 ghost use lib.ListN.{length};
-ghost use Rattle.correlation.specs.Inside.{Samples, Signs};
+ghost use Rattle.correlation.specs.Inside.{Samples, Signs, reach};
 
 // The sums of users 1 to 16 of a long code, real and imaginary, into the first 32 places of `out`.
 fn sixteen(re: &[f32], im: &[f32], signs: &[f32], out: &mut [f32])
-    requires { ⌜ (512 ≤ length (now re)) × (512 ≤ length (now im)) × (992 ≤ length (now signs)) × (32 ≤ length (now out)) ⌝ }
-    requires { ⌜ Samples (now re) 512 × Samples (now im) 512 × Signs (now signs) 992 ⌝ }
+    requires { ⌜ (512 ≤ length (now re)) × (512 ≤ length (now im)) × (reach 1 ≤ length (now signs)) × (32 ≤ length (now out)) ⌝ }
+    requires { ⌜ Samples (now re) 512 × Samples (now im) 512 × Signs (now signs) (reach 1) ⌝ }
 {
     let mut user: u32 = 0;
     while user < 16 {
@@ -35,8 +35,8 @@ pub extern "C" fn correlating_sums(cell: u32, row: &[f32], times: u32, out: &mut
     if samples::bad_samples(row, 1024) {
         return u32::MAX;
     }
-    let mut signs = [0.0f32; 992];
-    correlation::fill_signs(cell, 1, 992, &mut signs);
+    let mut signs = [0.0f32; 968];
+    correlation::fill_signs(cell, 1, &mut signs);
     let mut re = [0.0f32; 512];
     let mut im = [0.0f32; 512];
     let mut t: u32 = 0;

@@ -14,13 +14,13 @@ use Rattle.sums.specs.Totals.{total}
 use Rattle.sums.proofs.Totals.{total-same, total-minus}
 use Rattle.code_text.specs.Rows.{bitAt}
 use Rattle.codes.specs.Codes.{codeOf, shiftOf}
-use Rattle.codes.proofs.Numbers.{shift-low, length-high}
+use Rattle.codes.proofs.Numbers.{shift-in-period}
 use Rattle.elements.specs.Elements.{rowsOf}
 use Rattle.midambles.specs.TrainingSequences.{chipOf}
 use Rattle.signal_card.specs.SignalCard.{pairOf}
 use Rattle.samples.specs.Samples.{sampleOf}
 use Rattle.correlation.specs.Correlation.{sampleAt, timesConjugate, productAt, realSum, imaginarySum}
-use Rattle.correlation.specs.Inside.{back, turnedBack, signAt, term, dotOf, Turned, HoldsSigns}
+use Rattle.correlation.specs.Inside.{back, turnedBack, signAt, term, dotOf, Turned, reach, HoldsSigns}
 use Rattle.correlation.proofs.Turning.{by-remainder, turned-on}
 use Rattle.correlation.proofs.RowSigns.{element-is, sign-read}
 
@@ -96,7 +96,7 @@ turned-total zero f g n = (refl, refl)
 turned-total (suc s) f g n = let t = turned-total s f g n in (t .1, total-minus (λ (i : ℕ). turnedBack s (f i, g i) .0) n ∙ ap negℤ (t .0))
 
 -- ---- a user's sums
-module _ (cell burst user : ℕ) (known : 1 ≤ user) (row re im b : List Float) (turned : Turned row (codeOf burst .length) re im) (signs : HoldsSigns cell burst 992 b) where
+module _ (cell burst user : ℕ) (known : 1 ≤ user) (row re im b : List Float) (turned : Turned row (codeOf burst .length) re im) (signs : HoldsSigns cell burst (reach burst) b) where
   abbrev L : ℕ
   L = codeOf burst .length
 
@@ -114,8 +114,8 @@ module _ (cell burst user : ℕ) (known : 1 ≤ user) (row re im b : List Float)
       let bit : Bool = eqb (bitAt (getD (rowsOf burst) cell []) ((k - 1) % P)) 1 in
       let back-again : m + 1 ≡ i = omega arith in
       let further : by + m + 1 ≡ k = omega arith in
-      let near : by + m < 992 = omega (arith, shift-low burst user known, length-high burst) in
-      let sign : sampleOf (getD b (by + m) nan) ≡ signOf bit = sign-read cell burst 992 b (by + m) signs near ∙ ap (signAt cell burst) further in
+      let near : by + m < reach burst = omega (arith, shift-in-period burst user known) in
+      let sign : sampleOf (getD b (by + m) nan) ≡ signOf bit = sign-read cell burst (reach burst) b (by + m) signs near ∙ ap (signAt cell burst) further in
       let p : sampleOf (getD re m nan) ≡ turnedBack i v .0 = turned .real m (omega arith) .1 ∙ ap (λ (n : ℕ). turnedBack n (sampleAt row n) .0) back-again in
       let q : sampleOf (getD im m nan) ≡ turnedBack i v .1 = turned .imaginary m (omega arith) .1 ∙ ap (λ (n : ℕ). turnedBack n (sampleAt row n) .1) back-again in
       ap (λ (c : ℕ). timesConjugate v (pairOf 1 c)) (element-is cell burst k (omega arith))

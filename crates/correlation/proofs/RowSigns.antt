@@ -19,7 +19,7 @@ use Rattle.elements.specs.Elements.{rowsOf, turned, element}
 use Rattle.elements.proofs.Repeats.{element-turned}
 use Rattle.samples.specs.Samples.{isSample, sampleOf}
 use Rattle.samples.proofs.Reading.{reads-whole, is-whole}
-use Rattle.correlation.specs.Inside.{signAt, signTable, Signs, HoldsSigns}
+use Rattle.correlation.specs.Inside.{signAt, signTable, Signs, reach, HoldsSigns}
 
 -- the table, by the remainder and the bit
 entry : (r k : ℕ) (b : Bool) → r ≡ k % 4 → getD signTable (4 * r + cond b (k % 4) ((k + 2) % 4)) nan ≡ ofInt binary32 (cond b (pos 1) (negsuc 0))
@@ -67,6 +67,9 @@ period-four = of-codes (λ c. c .period % 4 ≡ 0) refl refl
 
 pub period-some : (burst : ℕ) → (1 ≤ codeOf burst .period) × (codeOf burst .period ≤ 512)
 period-some = of-codes (λ c. (1 ≤ c .period) × (c .period ≤ 512)) (omega arith, omega arith) (omega arith, omega arith)
+
+pub reach-high : (burst : ℕ) → reach burst ≤ 968
+reach-high = of-codes (λ c. c .period + c .length ≤ 968) (omega arith) (omega arith)
 
 module _ (cell burst : ℕ) where
   abbrev P : ℕ

@@ -66,6 +66,10 @@ signTable =
     minus ∷ none ∷ one ∷ none ∷
     none ∷ minus ∷ none ∷ one ∷ []
 
+-- as many signs of a row as the users' midambles read: none is shifted as far as a period
+abbrev pub reach : ℕ → ℕ
+reach burst = codeOf burst .period + codeOf burst .length
+
 -- a row that holds the signs of a cell's row, n of them
 pub record HoldsSigns (cell burst n : ℕ) (b : List Float) : Type 0 where
   pub sign : (m : ℕ) → m < n → getD b m nan ≡ ofInt binary32 (signAt cell burst (m + 1))

@@ -8,7 +8,7 @@ ghost use lib.ListN.{length, getD};
 ghost use lib.IntN.{_+ℤ_};
 ghost use lib.Ieee.{nan, binary32, ofInt};
 ghost use Rattle.samples.specs.Samples.{sampleOf};
-ghost use Rattle.correlation.specs.Inside.{turnedBack, sumsOf, Samples, Signs, Wholes, dotOf, Turned, signTable, HoldsSigns};
+ghost use Rattle.correlation.specs.Inside.{turnedBack, sumsOf, Samples, Signs, Wholes, dotOf, Turned, signTable, reach, HoldsSigns};
 
 // The real and the imaginary sum of a user.
 pub struct Sums {
@@ -151,12 +151,14 @@ fn repeat(period: usize, count: usize, out: &mut [f32])
     }
 }
 
-// The signs of a cell's row, as many as `count`, the row repeated behind its period.
-pub fn fill_signs(cell: u32, burst: u32, count: usize, out: &mut [f32])
-    requires { ⌜ (cell < 128) × (512 ≤ count) × (count ≤ length (now out)) ⌝ }
-    ensures { λ _. ⌜ HoldsSigns cell burst count (now (out .exit)) ⌝ }
+// The signs of a cell's row, as many as its users' midambles read, the row repeated behind its period.
+pub fn fill_signs(cell: u32, burst: u32, out: &mut [f32])
+    requires { ⌜ (cell < 128) × (reach burst ≤ length (now out)) ⌝ }
+    ensures { λ _. ⌜ HoldsSigns cell burst (reach burst) (now (out .exit)) ⌝ }
 {
-    let period = codes::code_of(burst).period as usize;
+    let code = codes::code_of(burst);
+    let period = code.period as usize;
+    let count = period + code.length as usize;
     let mut powers = [0u8; 512];
     elements::fill_elements(cell, burst, 0, period, &mut powers);
     signs_of(&powers, period, out);

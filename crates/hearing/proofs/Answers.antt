@@ -21,7 +21,7 @@ use Rattle.signal_card.specs.SignalCard.{f32Of}
 use Rattle.samples.specs.Samples.{badSamples}
 use Rattle.samples.proofs.Front.{each-sample}
 use Rattle.correlation.specs.Correlation.{realSum, imaginarySum}
-use Rattle.correlation.specs.Inside.{Samples, Turned, HoldsSigns}
+use Rattle.correlation.specs.Inside.{Samples, Turned, reach, HoldsSigns}
 use Rattle.correlation.proofs.Meaning.{sums-meant}
 use Rattle.hearing.specs.declared.HearAnswer.{HearAnswer}
 use Rattle.hearing.specs.declared.HearAnswer.the-variants as hear
@@ -41,7 +41,7 @@ loudest-same may f g h (suc k) =
     ∙ ap (λ (x : ℕ). cond (may (suc k) && ltb (g (loudest may g k)) (g (suc k))) (suc k) x) who
 
 -- ---- what is heard in the turned samples is what document 02 hears in the row
-module _ (cell burst count : ℕ) (row re im signs : List Float) (turned : Turned row (codeOf burst .length) re im) (held : HoldsSigns cell burst 992 signs) where
+module _ (cell burst count : ℕ) (row re im signs : List Float) (turned : Turned row (codeOf burst .length) re im) (held : HoldsSigns cell burst (reach burst) signs) where
   sums-are : (k : ℕ) → sumsAt re im signs burst (suc k) ≡ (realSum cell burst row (suc k), imaginarySum cell burst row (suc k))
   unfolding sumsAt sumsIn
   sums-are k = sums-meant cell burst (suc k) (omega arith) row re im signs turned held
@@ -119,7 +119,7 @@ module _ (cell burst count n1 n2 n3 n : ℕ) (one two three : Bool) (row : List 
       record { all = λ m h. each-sample row (2 * codeOf burst .length) m (good z b t y) (room z) (omega arith) }
 
   pub heard-answered : n ≡ 0 → (b : Bool) → b ≡ badSamples (2 * d .length) row → b ≡ false → (r : HearAnswer) (re im signs : List Float)
-      → Turned row (d .length) re im → HoldsSigns cell burst 992 signs
+      → Turned row (d .length) re im → HoldsSigns cell burst (reach burst) signs
       → saidHear r ≡ answered (heardIn re im signs burst (loudestIn re im signs burst count (2 * codeOf burst .base))) → saidHear r ≡ hearAnswer cell burst count row
   unfolding hearAnswer firstOf
   heard-answered z b t y r re im signs turned held said =

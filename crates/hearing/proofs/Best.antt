@@ -14,11 +14,11 @@ use Rattle.floats.proofs.Whole.{zero-plain}
 use Rattle.floats.proofs.Sums.{whole-is}
 use Rattle.refusals.specs.Refusals.{answered}
 use Rattle.codes.specs.Codes.{codeOf, shiftOf}
-use Rattle.codes.proofs.Numbers.{shift-low, length-high}
+use Rattle.codes.proofs.Numbers.{shift-in-period, length-high}
 use Rattle.samples.specs.Samples.{sampleOf}
 use Rattle.samples.proofs.Reading.{reads}
 use Rattle.correlation.specs.declared.Sums.{Sums}
-use Rattle.correlation.specs.Inside.{turnedBack, dotOf, sumsOf, Samples, Signs}
+use Rattle.correlation.specs.Inside.{turnedBack, dotOf, sumsOf, Samples, Signs, reach}
 use Rattle.correlation.proofs.Columns.{dot-size}
 use Rattle.correlation.proofs.Turning.{turned-size}
 use Rattle.hearing.specs.declared.HearAnswer.{HearAnswer}
@@ -54,7 +54,7 @@ module _ (may : ℕ → Bool) (heard : ℕ → ℕ) (u who : ℕ) (so-far : who 
 -- ---- a user's sums, from what user_sums gives
 module _ (re im signs : List Float) (burst user by chips : ℕ) (known : 1 ≤ user) (at : by ≡ shiftOf (codeOf burst) user) (long : chips ≡ codeOf burst .length)
     (s : Sums) (e : s ≡ sumsOf (turnedBack by (dotOf re signs by chips, dotOf im signs by chips)))
-    (reals : Samples re (codeOf burst .length)) (imaginaries : Samples im (codeOf burst .length)) (ones : Signs signs 992) where
+    (reals : Samples re (codeOf burst .length)) (imaginaries : Samples im (codeOf burst .length)) (ones : Signs signs (reach burst)) where
   sums-at : turnedBack by (dotOf re signs by chips, dotOf im signs by chips) ≡ sumsIn re im signs burst user
   unfolding sumsIn
   sums-at =
@@ -77,7 +77,7 @@ module _ (re im signs : List Float) (burst user by chips : ℕ) (known : 1 ≤ u
   sizes =
       let k = shiftOf (codeOf burst) user in
       let n = codeOf burst .length in
-      let fewer : Signs signs (k + n) = record { all = λ m h. ones .all m (omega (arith, shift-low burst user known, length-high burst)) } in
+      let fewer : Signs signs (k + n) = record { all = λ m h. ones .all m (omega (arith, shift-in-period burst user known)) } in
       turned-size k 1048064 (dotOf re signs k n, dotOf im signs k n) (dot-size re signs k n reals fewer (length-high burst)) (dot-size im signs k n imaginaries fewer (length-high burst))
 
   -- what `squared` asks of a sum, and what it gives

@@ -8,7 +8,7 @@ ghost use lib.Ieee.{binary32, ofInt};
 ghost use Rattle.refusals.specs.Refusals.{answered};
 ghost use Rattle.codes.specs.Codes.{codeOf};
 ghost use Rattle.samples.specs.Samples.{sampleOf};
-ghost use Rattle.correlation.specs.Inside.{Samples, Signs};
+ghost use Rattle.correlation.specs.Inside.{Samples, Signs, reach};
 ghost use Rattle.hearing.specs.Calls.{hearAnswer, saidHear};
 ghost use Rattle.hearing.specs.Inside.{square, heardAs, loudestIn, heardIn};
 
@@ -56,8 +56,8 @@ fn answer_of(who: u32, re: f32, im: f32) -> HearAnswer
 
 // Who is heard best of the users that a count permits, from the turned samples and the signs of the row: users from 1 up.
 fn best_heard(burst: u32, count: u32, re: &[f32], im: &[f32], signs: &[f32]) -> HearAnswer
-    requires { ⌜ (codeOf burst .length ≤ length (now re)) × (codeOf burst .length ≤ length (now im)) × (992 ≤ length (now signs)) ⌝ }
-    requires { ⌜ Samples (now re) (codeOf burst .length) × Samples (now im) (codeOf burst .length) × Signs (now signs) 992 ⌝ }
+    requires { ⌜ (codeOf burst .length ≤ length (now re)) × (codeOf burst .length ≤ length (now im)) × (reach burst ≤ length (now signs)) ⌝ }
+    requires { ⌜ Samples (now re) (codeOf burst .length) × Samples (now im) (codeOf burst .length) × Signs (now signs) (reach burst) ⌝ }
     ensures { λ r. ⌜ saidHear r ≡ answered (heardIn (now (re .entry)) (now (im .entry)) (now (signs .entry)) burst (loudestIn (now (re .entry)) (now (im .entry)) (now (signs .entry)) burst count (2 * codeOf burst .base))) ⌝ }
 {
     let code = codes::code_of(burst);
@@ -110,8 +110,8 @@ pub fn hear(cell: u32, burst: u32, count: u32, row: &[f32]) -> HearAnswer
     }
     let mut re = [0.0f32; 512];
     let mut im = [0.0f32; 512];
-    let mut signs = [0.0f32; 992];
+    let mut signs = [0.0f32; 968];
     correlation::turn(row, chips, &mut re, &mut im);
-    correlation::fill_signs(cell, burst, 992, &mut signs);
+    correlation::fill_signs(cell, burst, &mut signs);
     best_heard(burst, count, &re, &im, &signs)
 }

@@ -6,7 +6,8 @@ use native.Mathlib.Omega.{arith}
 use lib.ListN.{length}
 use denote.Ref.{now}
 use Rattle.samples.proofs.Front.{each-sample}
-use Rattle.correlation.proofs.RowSigns.{are-signs}
+use Rattle.correlation.specs.Inside.{reach}
+use Rattle.correlation.proofs.RowSigns.{reach-high, are-signs}
 use Rattle.correlating.proofs.correlating_sums.Statement.{statement}
 use Rattle.correlating.proofs.correlating_sums.Tie as tie
 
@@ -35,7 +36,7 @@ slice-aggregate-fill-signs : tie.Need-slice-aggregate-fill-signs Inv-loop μ-loo
 slice-aggregate-fill-signs c = search needs
 
 fill-signs-requires : tie.Need-fill-signs-requires Inv-loop μ-loop
-fill-signs-requires c κs = search needs
+fill-signs-requires c κs = let near = reach-high 1 in (search needs, near)
 
 loop-holds : tie.Need-loop-holds Inv-loop μ-loop
 loop-holds c = (omega arith, refl, refl, refl)
@@ -67,9 +68,10 @@ slice-aggregate-sixteen-3 c = search needs
 sixteen-requires : tie.Need-sixteen-requires Inv-loop μ-loop
 sixteen-requires c κs =
     let turned = c .before .before .before .before .before .before .turn .ensures in
+    let near = reach-high 1 in
     let signs = c .before .before .before .before .before .before .before .before .before .before .before .before .fill-signs .ensures in (
       (search needs, search needs, search needs, search needs),
-      (record { all = λ m h. turned .real m h .0 }, record { all = λ m h. turned .imaginary m h .0 }, are-signs _ 1 992 992 _ signs (omega arith)),
+      (record { all = λ m h. turned .real m h .0 }, record { all = λ m h. turned .imaginary m h .0 }, are-signs _ 1 (reach 1) (reach 1) _ signs (omega arith)),
     )
 
 add-t : tie.Need-add-t Inv-loop μ-loop

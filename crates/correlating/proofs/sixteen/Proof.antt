@@ -1,10 +1,11 @@
 -- `correlating::sixteen` meets its contract: the rows are long enough at each turn. Assumes nothing.
 use borrow.Author.Needs.{needs}
 use mathlib.Core.Path.{_≡_, refl, sym, subst}
-use Prim.Native.Nat.{ℕ, _+_, _-_, _≤_}
+use Prim.Native.Nat.{ℕ, _+_, _-_, _≤_, _<_}
 use native.Mathlib.Omega.{arith}
 use lib.ListN.{length, length-set}
-use Rattle.codes.proofs.Numbers.{shift-low}
+use Rattle.codes.specs.Codes.{codeOf}
+use Rattle.codes.proofs.Numbers.{shift-low, shift-in-period}
 use Rattle.correlating.proofs.sixteen.Statement.{statement}
 use Rattle.correlating.proofs.sixteen.Tie as tie
 
@@ -26,15 +27,20 @@ shift-requires c κs = search needs
 cast-by : tie.Need-cast-by Inv-loop μ-loop
 cast-by c = search needs
 
+long-code : codeOf 1 .length ≡ 512
+unfolding codeOf
+long-code = refl
+
 user-sums-requires : tie.Need-user-sums-requires Inv-loop μ-loop
 user-sums-requires c κs =
     let l = c .before .before in
     let p = l .before .before .before .before .before .pre in
-    let far : c .shift .result ≤ 480 = subst (λ (n : ℕ). n ≤ 480) (sym (c .shift .ensures)) (shift-low 1 (l .loop .user + 1) (omega arith)) in (
+    let far : c .shift .result ≤ 480 = subst (λ (n : ℕ). n ≤ 480) (sym (c .shift .ensures)) (shift-low 1 (l .loop .user + 1) (omega arith)) in
+    let inside : c .shift .result < codeOf 1 .period = subst (λ (n : ℕ). n < codeOf 1 .period) (sym (c .shift .ensures)) (shift-in-period 1 (l .loop .user + 1) (omega arith)) in (
       (omega arith, refl, far),
       (
-        (p .0 .0, p .0 .1, omega arith),
-        (p .1 .0, p .1 .1, record { all = λ m h. p .1 .2 .all m (omega arith) }),
+        (p .0 .0, p .0 .1, omega (arith, long-code)),
+        (p .1 .0, p .1 .1, record { all = λ m h. p .1 .2 .all m (omega (arith, long-code)) }),
       ),
     )
 

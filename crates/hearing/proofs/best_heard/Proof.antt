@@ -2,7 +2,7 @@
 use borrow.Author.Needs.{needs}
 use mathlib.Core.Path.{_≡_, refl, sym, ap, _∙_, subst}
 use mathlib.Core.List.{List}
-use Prim.Native.Nat.{ℕ, _+_, _-_, _*_, _%_, _≤_}
+use Prim.Native.Nat.{ℕ, _+_, _-_, _*_, _%_, _≤_, _<_}
 use native.Mathlib.Omega.{arith}
 use lib.IntN.{ℤ, natAbs}
 use lib.Ieee.{Float, binary32, ofInt}
@@ -10,7 +10,7 @@ use denote.Ref.{now}
 use borrow.Author.Tests.{ltb-true, ltb-false}
 use Rattle.codes.specs.Codes.{codeOf, permitted}
 use Rattle.codes.specs.declared.Code.{Code}
-use Rattle.codes.proofs.Numbers.{of-codes, small, shift-low, length-high}
+use Rattle.codes.proofs.Numbers.{of-codes, small, shift-low, shift-in-period, length-high}
 use Rattle.samples.specs.Samples.{sampleOf}
 use Rattle.correlation.specs.declared.Sums.{Sums}
 use Rattle.hearing.specs.Inside.{square, sumsIn, sumsAt, strengthIn, loudestIn}
@@ -124,6 +124,7 @@ user-sums-requires c κs =
     let same = chips-are (s .args .burst) _ (code-is l) in
     let far : c .shift .result ≤ 480 = subst (λ (n : ℕ). n ≤ 480) (sym (c .shift .ensures)) (shift-low (s .args .burst) (l .loop .user + 1) (omega arith)) in
     let few = length-high (s .args .burst) in
+    let inside : c .shift .result < codeOf (s .args .burst) .period = subst (λ (n : ℕ). n < codeOf (s .args .burst) .period) (sym (c .shift .ensures)) (shift-in-period (s .args .burst) (l .loop .user + 1) (omega arith)) in
     let p = s .pre in (
       (omega arith, thirty-twos (s .args .burst) _ (code-is l), far),
       (

@@ -9,11 +9,11 @@ use lib.Ieee.{Float}
 use lib.ListN.{length}
 use denote.Ref.{now}
 use Rattle.codes.proofs.Numbers.{length-high}
-use Rattle.correlation.proofs.RowSigns.{are-signs}
+use Rattle.correlation.proofs.RowSigns.{reach-high, are-signs}
 use Rattle.samples.specs.Samples.{badSamples}
 use Rattle.refusals.specs.Refusals.{answered}
 use Rattle.codes.specs.Codes.{codeOf}
-use Rattle.correlation.specs.Inside.{Samples, Turned, HoldsSigns}
+use Rattle.correlation.specs.Inside.{Samples, Turned, reach, HoldsSigns}
 use Rattle.hearing.specs.declared.HearAnswer.{HearAnswer}
 use Rattle.hearing.specs.declared.HearAnswer.the-variants as hear
 use Rattle.hearing.specs.Calls.{hearAnswer, saidHear}
@@ -62,7 +62,7 @@ module _ (q : tie.After-or-refused4) where
       (q .before .before .before .before .before .before .bad-cell .ensures) (q .before .before .before .before .before .bad-type .ensures) (q .before .before .before .before .bad-count .ensures) (q .before .before .before .or-refused .ensures) (q .before .before .or-refused2 .ensures) (q .before .or-refused3 .ensures) (q .or-refused4 .ensures)
 
   given : q .or-refused4 .result ≡ 0 → (b : Bool) → b ≡ badSamples (2 * q .before .before .before .before .before .before .before .before .code-of .result .length) (now (start .args .row)) → b ≡ false → (r : HearAnswer) (re im signs : List Float)
-      → Turned (now (start .args .row)) (q .before .before .before .before .before .before .before .before .code-of .result .length) re im → HoldsSigns (start .args .cell) (start .args .burst) 992 signs
+      → Turned (now (start .args .row)) (q .before .before .before .before .before .before .before .before .code-of .result .length) re im → HoldsSigns (start .args .cell) (start .args .burst) (reach (start .args .burst)) signs
       → saidHear r ≡ answered (heardIn re im signs (start .args .burst) (loudestIn re im signs (start .args .burst) (start .args .count) (2 * codeOf (start .args .burst) .base)))
       → saidHear r ≡ hearAnswer (start .args .cell) (start .args .burst) (start .args .count) (now (start .args .row))
   given =
@@ -127,7 +127,7 @@ slice-aggregate-fill-signs : tie.Need-slice-aggregate-fill-signs
 slice-aggregate-fill-signs c = search needs
 
 fill-signs-requires : tie.Need-fill-signs-requires
-fill-signs-requires c κs = (low (c .before .before .before .before .before .before .before .before .before) (c .before .before .before .before .before .before .before .before .if1 .left), omega arith, omega arith)
+fill-signs-requires c κs = (low (c .before .before .before .before .before .before .before .before .before) (c .before .before .before .before .before .before .before .before .if1 .left), reach-high _)
 
 slice-aggregate-best-heard : tie.Need-slice-aggregate-best-heard
 slice-aggregate-best-heard c = search needs
@@ -143,14 +143,15 @@ best-heard-requires c κs =
     let q = c .before .before .before .before .before .before .before .before .before .before .before .before .before .before in
     let n = chips q in
     let few : codeOf (start q .args .burst) .length ≤ 512 = length-high (start q .args .burst) in
+    let near : reach (start q .args .burst) ≤ 968 = reach-high (start q .args .burst) in
     let turned = c .before .before .before .before .before .before .before .before .turn .ensures in
     let two = turned-samples _ _ _ (codeOf (start q .args .burst) .length) (subst (λ (k : ℕ). Turned (now (start q .args .row)) k (c .before .before .before .before .before .before .before .before .turn .last .1 .1 .0) (c .before .before .before .before .before .before .before .before .turn .last .1 .1 .1 .0)) (n .2) turned) in (
       (search needs, search needs, search needs),
-      (two .0, two .1, are-signs (start q .args .cell) (start q .args .burst) 992 992 _ (c .before .before .before .before .fill-signs .ensures) (omega arith)),
+      (two .0, two .1, are-signs (start q .args .cell) (start q .args .burst) (reach (start q .args .burst)) (reach (start q .args .burst)) _ (c .before .before .before .before .fill-signs .ensures) (omega arith)),
     )
 
 returns-3 : tie.Need-returns-3
-returns-3 c = given (c .before .before .before .before .before .before .before .before .before .before .before .before .before .before .before) (c .before .before .before .before .before .before .before .before .before .before .before .before .before .before .if1 .left) (c .before .before .before .before .before .before .before .before .before .before .before .before .before .bad-samples .result) (c .before .before .before .before .before .before .before .before .before .before .before .before .before .bad-samples .ensures) (c .before .before .before .before .before .before .before .before .before .before .before .before .if2 .left) (c .best-heard .result) (c .before .before .before .before .before .before .before .before .before .turn .last .1 .1 .0) (c .before .before .before .before .before .before .before .before .before .turn .last .1 .1 .1 .0) (c .before .before .before .before .before .fill-signs .last .1 .1 .1 .0)
+returns-3 c = given (c .before .before .before .before .before .before .before .before .before .before .before .before .before .before .before) (c .before .before .before .before .before .before .before .before .before .before .before .before .before .before .if1 .left) (c .before .before .before .before .before .before .before .before .before .before .before .before .before .bad-samples .result) (c .before .before .before .before .before .before .before .before .before .before .before .before .before .bad-samples .ensures) (c .before .before .before .before .before .before .before .before .before .before .before .before .if2 .left) (c .best-heard .result) (c .before .before .before .before .before .before .before .before .before .turn .last .1 .1 .0) (c .before .before .before .before .before .before .before .before .before .turn .last .1 .1 .1 .0) (c .before .before .before .before .before .fill-signs .last .1 .1 .0)
     (c .before .before .before .before .before .before .before .before .before .turn .ensures) (c .before .before .before .before .before .fill-signs .ensures) (c .best-heard .ensures)
 
 pub hear-spec : {M : Type 1} → statement M

@@ -1,4 +1,4 @@
--- The columns of products, each added in f32: what a turn of the loops makes of them, and what they are together. Cited by the proofs of dot and user_sums, and by the crate hearing.
+-- The columns of products, each added in f32: what a turn of the loops makes of them, and what they are together. Cited by the proofs of dots and user_sums, and by the crate hearing.
 -- Assumes nothing.
 use mathlib.Core.Path.{_≡_, sym, ap, _∙_}
 use mathlib.Core.List.{List}
@@ -11,13 +11,14 @@ use lib.Seq.{getD-set-same, getD-set-other}
 use lib.IntN.{ℤ, natAbs, _+ℤ_, _*ℤ_}
 use lib.Ieee.{Float, nan, binary32, add, mul, ofInt, ofBits}
 use Rattle.sums.specs.Totals.{total}
-use Rattle.sums.proofs.Totals.{total-size, column, column-none, column-more, column-size, columns}
+use Rattle.sums.proofs.Totals.{total-size, total-same, column, column-none, column-more, column-size, columns}
 use Rattle.floats.specs.Whole.{IsWhole}
 use Rattle.floats.proofs.Whole.{zero-plain}
 use Rattle.floats.proofs.Sums.{sum-exact, product-whole, size-product}
 use Rattle.samples.specs.Samples.{sampleOf}
 use Rattle.samples.proofs.Reading.{sample-is, sample-size}
-use Rattle.correlation.specs.Inside.{Samples, Signs, term, dotOf}
+use Rattle.correlation.specs.Inside.{Samples, Signs, Wholes, term, dotOf}
+use Rattle.correlation.proofs.Halves.{Hold, read-back, are-wholes}
 
 module _ (z b : List Float) (by count : ℕ) (samples : Samples z count) (signs : Signs b (by + count)) where
   -- a product of a sample and a sign is a whole number, at most 2047 in size
@@ -55,12 +56,19 @@ module _ (z b : List Float) (by count : ℕ) (samples : Samples z count) (signs 
   dot-size few = omega (arith, total-size (term z b by) 2047 count term-size)
 
   -- a column has at most sixteen products
-  pub column-few : (t k : ℕ) → 32 * t ≡ count → count ≤ 512 → k < 32 → natAbs (column 32 (term z b by) k t) ≤ 32752
+  column-few : (t k : ℕ) → 32 * t ≡ count → count ≤ 512 → k < 32 → natAbs (column 32 (term z b by) k t) ≤ 32752
   column-few t k e few h = omega (arith, column-size 32 (term z b by) 2047 k t (λ r high. term-size (32 * r + (k + 1)) (omega arith) (omega arith)))
 
-  -- all columns
-  pub together : (t : ℕ) → 32 * t ≡ count → total (λ (l : ℕ). column 32 (term z b by) (l - 1) t) 32 ≡ dotOf z b by count
-  together t e = columns 32 (term z b by) t ∙ ap (total (term z b by)) e
+  -- ---- all columns, when no product is left: each is the float of a whole number, and their total
+  module _ (t : ℕ) (acc : List Float) (e : 32 * t ≡ count) (few : count ≤ 512) (is : (k : ℕ) → k < 32 → getD acc k nan ≡ ofInt binary32 (column 32 (term z b by) k t)) where
+    held : Hold (λ (k : ℕ). column 32 (term z b by) k t) acc 32 32752
+    held = record { is = is; few = λ k h. column-few t k e few h }
+
+    pub columns-whole : Wholes acc 32 (2 ^ 18)
+    columns-whole = are-wholes _ acc 32 32752 held (omega arith) (2 ^ 18) (omega arith)
+
+    pub columns-total : total (λ (l : ℕ). sampleOf (getD acc (l - 1) nan)) 32 ≡ dotOf z b by count
+    columns-total = total-same _ _ 32 (λ l low high. read-back _ acc 32 32752 held (omega arith) (l - 1) (omega arith)) ∙ columns 32 (term z b by) t ∙ ap (total (term z b by)) e
 
 -- ---- the array of columns: those before l have a row more
 abbrev pub Some : List Float → (ℕ → ℤ) → (ℕ → ℤ) → ℕ → Type 0

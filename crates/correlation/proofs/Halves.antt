@@ -1,4 +1,4 @@
--- Columns added by halves: their total stays, and each is the float of a whole number. Cited by the proofs of halve and dot.
+-- Columns added by halves: their total stays, and each is the float of a whole number. Cited by the proofs of halve and joined, and by Columns.
 -- Assumes nothing.
 use mathlib.Core.Path.{_≡_, sym, ap, _∙_}
 use mathlib.Core.List.{List}
@@ -37,11 +37,11 @@ pub record Hold (v : ℕ → ℤ) (row : List Float) (n b : ℕ) : Type 0 where
   pub few : (k : ℕ) → k < n → natAbs (v k) ≤ b
 
 module _ (v : ℕ → ℤ) (row : List Float) (n b : ℕ) (held : Hold v row n b) (low : b ≤ 2 ^ 22) where
-  read-back : (k : ℕ) → k < n → sampleOf (getD row k nan) ≡ v k
+  pub read-back : (k : ℕ) → k < n → sampleOf (getD row k nan) ≡ v k
   read-back k h = let few = held .few k h in ap sampleOf (held .is k h) ∙ reads (ofInt binary32 (v k)) (v k) (whole-is binary32 (v k) (omega arith))
 
-  pub are-wholes : Wholes row n
-  are-wholes =
+  pub are-wholes : (most : ℕ) → b ≤ most → Wholes row n most
+  are-wholes most enough =
       record {
         all = λ k h.
             (held .is k h ∙ ap (ofInt binary32) (sym (read-back k h)), let few = held .few k h in omega (arith, ap natAbs (read-back k h)));
@@ -69,7 +69,7 @@ module _ (v : ℕ → ℤ) (row : List Float) (n b : ℕ) (held : Hold v row n b
       ∙ ap (λ (z : ℤ). ofInt binary32 (z +ℤ v 1)) (sym (+ℤ-idl (v 0)))
 
 -- one sum of two columns, in f32
-pub sum-of-two : (row : List Float) (n j k : ℕ) (x y : Float) → Wholes row n → j < n → k < n → x ≡ getD row j nan → y ≡ getD row k nan
+pub sum-of-two : (row : List Float) (n j k : ℕ) (x y : Float) → Wholes row n (2 ^ 23) → j < n → k < n → x ≡ getD row j nan → y ≡ getD row k nan
     → add binary32 x y ≡ ofInt binary32 (sampleOf (getD row j nan) +ℤ sampleOf (getD row k nan))
 sum-of-two row n j k x y wholes h l p q =
     let a = wholes .all j h in

@@ -3,13 +3,14 @@
 use mathlib.Core.Path.{_≡_, refl, sym, ap, _∙_, subst}
 use mathlib.Core.Bool.{Bool, true, false, cond}
 use mathlib.Core.List.{List, [], _++_}
-use Prim.Native.Nat.{ℕ, zero, suc, _+_, _-_, _*_, _%_, _≤_, _<_}
+use Prim.Native.Nat.{ℕ, _+_, _-_, _%_, _≤_, _<_}
 use native.Mathlib.Nat.{mod-lt, mod-mod}
 use native.Mathlib.Omega.{arith}
 use lib.Dec.{T, eqb, lit<}
 use lib.ListN.{getD, List·getD-append}
 use lib.IntN.{pos, negsuc, natAbs}
-use lib.Ieee.{Float, nan, binary32, ofInt}
+use lib.Ieee.{Float, nan, binary32, sub, ofInt}
+use Rattle.floats.proofs.Sums.{difference-exact, whole-is}
 use Rattle.laws.specs.Runs.{run}
 use Rattle.laws.proofs.Runs.{run-length, run-at}
 use Rattle.code_text.specs.Rows.{bitAt}
@@ -19,47 +20,18 @@ use Rattle.elements.specs.Elements.{rowsOf, turned, element}
 use Rattle.elements.proofs.Repeats.{element-turned}
 use Rattle.samples.specs.Samples.{isSample, sampleOf}
 use Rattle.samples.proofs.Reading.{reads-whole, is-whole}
-use Rattle.correlation.specs.Inside.{signAt, signTable, Signs, reach, HoldsSigns}
+use Rattle.correlation.specs.Inside.{signAt, signFrom, Signs, reach, HoldsSigns}
 
--- the table, by the remainder and the bit
-entry : (r k : ℕ) (b : Bool) → r ≡ k % 4 → getD signTable (4 * r + cond b (k % 4) ((k + 2) % 4)) nan ≡ ofInt binary32 (cond b (pos 1) (negsuc 0))
-unfolding signTable
-entry zero k true e = ap (λ (n : ℕ). getD signTable n nan) (at k e)
+-- the sign of an element, by its bit
+from-bit : (k : ℕ) (b : Bool) → signFrom (k % 4) (cond b (k % 4) ((k + 2) % 4)) ≡ ofInt binary32 (cond b (pos 1) (negsuc 0))
+from-bit k true = ap (λ (n : ℕ). sub binary32 (ofInt binary32 (pos 1)) (ofInt binary32 (pos n))) none ∙ difference-exact binary32 (ofInt binary32 (pos 0)) (pos 1) (pos 0) (omega arith) (whole-is binary32 (pos 0) (omega arith))
   where
-    at : (k : ℕ) → 0 ≡ k % 4 → 4 * 0 + k % 4 ≡ 0
-    at k e = omega arith
-entry zero k false e = ap (λ (n : ℕ). getD signTable n nan) (at k e)
+    none : (k % 4 + 4 - k % 4) % 4 ≡ 0
+    none = omega arith
+from-bit k false = ap (λ (n : ℕ). sub binary32 (ofInt binary32 (pos 1)) (ofInt binary32 (pos n))) two ∙ difference-exact binary32 (ofInt binary32 (pos 2)) (pos 1) (pos 2) (omega arith) (whole-is binary32 (pos 2) (omega arith))
   where
-    at : (k : ℕ) → 0 ≡ k % 4 → 4 * 0 + (k + 2) % 4 ≡ 2
-    at k e = omega arith
-entry (suc zero) k true e = ap (λ (n : ℕ). getD signTable n nan) (at k e)
-  where
-    at : (k : ℕ) → 1 ≡ k % 4 → 4 * 1 + k % 4 ≡ 5
-    at k e = omega arith
-entry (suc zero) k false e = ap (λ (n : ℕ). getD signTable n nan) (at k e)
-  where
-    at : (k : ℕ) → 1 ≡ k % 4 → 4 * 1 + (k + 2) % 4 ≡ 7
-    at k e = omega arith
-entry (suc (suc zero)) k true e = ap (λ (n : ℕ). getD signTable n nan) (at k e)
-  where
-    at : (k : ℕ) → 2 ≡ k % 4 → 4 * 2 + k % 4 ≡ 10
-    at k e = omega arith
-entry (suc (suc zero)) k false e = ap (λ (n : ℕ). getD signTable n nan) (at k e)
-  where
-    at : (k : ℕ) → 2 ≡ k % 4 → 4 * 2 + (k + 2) % 4 ≡ 8
-    at k e = omega arith
-entry (suc (suc (suc zero))) k true e = ap (λ (n : ℕ). getD signTable n nan) (at k e)
-  where
-    at : (k : ℕ) → 3 ≡ k % 4 → 4 * 3 + k % 4 ≡ 15
-    at k e = omega arith
-entry (suc (suc (suc zero))) k false e = ap (λ (n : ℕ). getD signTable n nan) (at k e)
-  where
-    at : (k : ℕ) → 3 ≡ k % 4 → 4 * 3 + (k + 2) % 4 ≡ 13
-    at k e = omega arith
-entry (suc (suc (suc (suc r)))) k b e = absurd (over k e)
-  where
-    over : (k : ℕ) → suc (suc (suc (suc r))) ≡ k % 4 → ⊥
-    over k e = omega arith
+    two : ((k + 2) % 4 + 4 - k % 4) % 4 ≡ 2
+    two = omega arith
 
 -- both periods divide by 4, and are between 1 and 512
 pub period-four : (burst : ℕ) → codeOf burst .period % 4 ≡ 0
@@ -104,7 +76,7 @@ module _ (cell burst : ℕ) where
 
   -- the sign at place m of the row, from those of the first period
   sign-placed : (powers rest : List ℕ) (once out : List Float) (m : ℕ) → powers ≡ run (λ (i : ℕ). element P row (i + 0)) P ++ rest
-      → ((k : ℕ) → k < P → getD once k nan ≡ getD signTable (4 * ((k + 1) % 4) + getD powers k 0) nan)
+      → ((k : ℕ) → k < P → getD once k nan ≡ signFrom ((k + 1) % 4) (getD powers k 0))
       → getD out m nan ≡ getD once (m % P) nan → getD out m nan ≡ ofInt binary32 (signAt cell burst (m + 1))
   unfolding signAt
   sign-placed powers rest once out m e signs again =
@@ -114,8 +86,8 @@ module _ (cell burst : ℕ) where
       let back : (k + 1 - 1) % P ≡ (m + 1 - 1) % P = ap (λ (n : ℕ). n % P) (less k) ∙ mod-mod m P ∙ sym (ap (λ (n : ℕ). n % P) (less m)) in
       again
       ∙ signs k low
-      ∙ ap (λ (n : ℕ). getD signTable (4 * ((k + 1) % 4) + n) nan) (filled-at powers rest P k e low ∙ element-is (k + 1) (omega arith))
-      ∙ entry ((k + 1) % 4) (k + 1) bit refl
+      ∙ ap (signFrom ((k + 1) % 4)) (filled-at powers rest P k e low ∙ element-is (k + 1) (omega arith))
+      ∙ from-bit (k + 1) bit
       ∙ ap (λ (n : ℕ). ofInt binary32 (cond (eqb (bitAt row n) 1) (pos 1) (negsuc 0))) back
     where
       less : (n : ℕ) → n + 1 - 1 ≡ n
@@ -123,11 +95,11 @@ module _ (cell burst : ℕ) where
 
   -- all of them, the period p having been fetched
   pub signs-held : (p n : ℕ) (powers rest : List ℕ) (once out : List Float) → P ≡ p → powers ≡ run (λ (i : ℕ). element P row (i + 0)) p ++ rest
-      → ((k : ℕ) → k < p → getD once k nan ≡ getD signTable (4 * ((k + 1) % 4) + getD powers k 0) nan) → ((m : ℕ) → m < n → getD out m nan ≡ getD once (m % p) nan) → HoldsSigns cell burst n out
+      → ((k : ℕ) → k < p → getD once k nan ≡ signFrom ((k + 1) % 4) (getD powers k 0)) → ((m : ℕ) → m < n → getD out m nan ≡ getD once (m % p) nan) → HoldsSigns cell burst n out
   signs-held p n powers rest once out e =
       subst
       (λ (q : ℕ). powers ≡ run (λ (i : ℕ). element P row (i + 0)) q ++ rest
-      → ((k : ℕ) → k < q → getD once k nan ≡ getD signTable (4 * ((k + 1) % 4) + getD powers k 0) nan) → ((m : ℕ) → m < n → getD out m nan ≡ getD once (m % q) nan) → HoldsSigns cell burst n out)
+      → ((k : ℕ) → k < q → getD once k nan ≡ signFrom ((k + 1) % 4) (getD powers k 0)) → ((m : ℕ) → m < n → getD out m nan ≡ getD once (m % q) nan) → HoldsSigns cell burst n out)
       e
       (λ filled signs again. record { sign = λ m h. sign-placed powers rest once out m filled signs (again m h) })
 

@@ -2,12 +2,12 @@
 -- Assumes nothing.
 use mathlib.Core.Path.{_≡_}
 use mathlib.Core.Bool.{cond}
-use mathlib.Core.List.{List, [], _∷_}
-use Prim.Native.Nat.{ℕ, zero, suc, _+_, _-_, _%_, _^_, _≤_, _<_}
+use mathlib.Core.List.{List, []}
+use Prim.Native.Nat.{ℕ, zero, suc, _+_, _-_, _%_, _≤_, _<_}
 use lib.Dec.{T, eqb}
 use lib.ListN.{getD}
 use lib.IntN.{ℤ, pos, negsuc, negℤ, natAbs, _*ℤ_}
-use lib.Ieee.{Float, nan, binary32, ofInt}
+use lib.Ieee.{Float, nan, binary32, sub, ofInt}
 use Rattle.sums.specs.Totals.{total}
 use Rattle.codes.specs.Codes.{codeOf}
 use Rattle.code_text.specs.Rows.{bitAt}
@@ -35,9 +35,9 @@ pub record Samples (z : List Float) (n : ℕ) : Type 0 where
 pub record Signs (b : List Float) (n : ℕ) : Type 0 where
   pub all : (m : ℕ) → m < n → T (isSample (getD b m nan)) × (natAbs (sampleOf (getD b m nan)) ≤ 1)
 
--- the first n floats are whole numbers of at most 2 ^ 23, none of them a minus zero
-pub record Wholes (z : List Float) (n : ℕ) : Type 0 where
-  pub all : (m : ℕ) → m < n → (getD z m nan ≡ ofInt binary32 (sampleOf (getD z m nan))) × (natAbs (sampleOf (getD z m nan)) ≤ 2 ^ 23)
+-- the first n floats are whole numbers of at most `most` in size, none of them a minus zero
+pub record Wholes (z : List Float) (n most : ℕ) : Type 0 where
+  pub all : (m : ℕ) → m < n → (getD z m nan ≡ ofInt binary32 (sampleOf (getD z m nan))) × (natAbs (sampleOf (getD z m nan)) ≤ most)
 
 -- a float times the one of another row that stands `by` places further on; and the sum of n of these
 abbrev pub term : List Float → List Float → ℕ → ℕ → ℤ
@@ -55,16 +55,9 @@ pub record Turned (row : List Float) (n : ℕ) (re im : List Float) : Type 0 whe
   pub real : (m : ℕ) → m < n → T (isSample (getD re m nan)) × (sampleOf (getD re m nan) ≡ turnedBack (m + 1) (sampleAt row (m + 1)) .0)
   pub imaginary : (m : ℕ) → m < n → T (isSample (getD im m nan)) × (sampleOf (getD im m nan) ≡ turnedBack (m + 1) (sampleAt row (m + 1)) .1)
 
--- the sign of an element of power p, where its place leaves the remainder r by 4, at 4r + p
-unfoldable pub signTable : List Float
-signTable =
-    let one = ofInt binary32 (pos 1) in
-    let none = ofInt binary32 (pos 0) in
-    let minus = ofInt binary32 (negsuc 0) in
-    one ∷ none ∷ minus ∷ none ∷
-    none ∷ one ∷ none ∷ minus ∷
-    minus ∷ none ∷ one ∷ none ∷
-    none ∷ minus ∷ none ∷ one ∷ []
+-- the sign of an element of power p, where its place leaves the remainder r by 4: 1 less how far p is past r, which is 0 or 2
+abbrev pub signFrom : ℕ → ℕ → Float
+signFrom r p = sub binary32 (ofInt binary32 (pos 1)) (ofInt binary32 (pos ((p + 4 - r) % 4)))
 
 -- as many signs of a row as the users' midambles read: none is shifted as far as a period
 abbrev pub reach : ℕ → ℕ

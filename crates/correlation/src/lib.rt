@@ -3,12 +3,13 @@
 // as far on as the user is shifted, and turned back by that shift.
 // Public for the crate hearing, whose call has tested the cell and the samples before, and for correlating, which measures them.
 ghost use mathlib.Core.Path.{_≡_};
-ghost use Prim.Native.Nat.{ℕ, _≤_, _<_, _+_, _*_, _%_};
+ghost use Prim.Native.Nat.{ℕ, _≤_, _<_, _+_, _-_, _*_, _%_, _^_};
 ghost use lib.ListN.{length, getD};
 ghost use lib.IntN.{_+ℤ_};
 ghost use lib.Ieee.{nan, binary32, ofInt};
+ghost use Rattle.sums.specs.Totals.{total};
 ghost use Rattle.samples.specs.Samples.{sampleOf};
-ghost use Rattle.correlation.specs.Inside.{turnedBack, sumsOf, Samples, Signs, Wholes, dotOf, Turned, signTable, reach, HoldsSigns};
+ghost use Rattle.correlation.specs.Inside.{turnedBack, sumsOf, Samples, Signs, Wholes, dotOf, Turned, signFrom, reach, HoldsSigns};
 
 // The real and the imaginary sum of a user.
 pub struct Sums {
@@ -18,7 +19,7 @@ pub struct Sums {
 
 // To each of the first `half` columns the one that stands `half` places further on is added.
 fn halve(half: usize, columns: &mut [f32])
-    requires { ⌜ (2 * half ≤ length (now columns)) × (half ≤ 16) × Wholes (now columns) (2 * half) ⌝ }
+    requires { ⌜ (2 * half ≤ length (now columns)) × (half ≤ 16) × Wholes (now columns) (2 * half) (2 ^ 23) ⌝ }
     ensures { λ _. ⌜ ((k : ℕ) → k < half → getD (now (columns .exit)) k nan ≡ ofInt binary32 (sampleOf (getD (now (columns .entry)) k nan) +ℤ sampleOf (getD (now (columns .entry)) (k + half) nan))) ⌝ }
 {
     let mut k: usize = 0;
@@ -28,28 +29,42 @@ fn halve(half: usize, columns: &mut [f32])
     }
 }
 
-// The sum of the first `count` floats of z, each times the sign that stands `by` places further on in b: in 32 columns, of which several are added at once, then the columns by halves.
-fn dot(z: &[f32], b: &[f32], by: usize, count: usize) -> f32
-    requires { ⌜ (count ≤ 512) × (count % 32 ≡ 0) × (by ≤ 480) ⌝ }
-    requires { ⌜ (count ≤ length (now z)) × (by + count ≤ length (now b)) ⌝ }
-    requires { ⌜ Samples (now z) count × Signs (now b) (by + count) ⌝ }
-    ensures { λ r. ⌜ r ≡ ofInt binary32 (dotOf (now (z .entry)) (now (b .entry)) by count) ⌝ }
+// The sum of 32 columns, by halves.
+fn joined(columns: &mut [f32]) -> f32
+    requires { ⌜ (32 ≤ length (now columns)) × Wholes (now columns) 32 (2 ^ 18) ⌝ }
+    ensures { λ r. ⌜ r ≡ ofInt binary32 (total (λ (l : ℕ). sampleOf (getD (now (columns .entry)) (l - 1) nan)) 32) ⌝ }
 {
-    let mut columns = [0.0f32; 32];
+    halve(16, columns);
+    halve(8, columns);
+    halve(4, columns);
+    halve(2, columns);
+    columns[0] + columns[1]
+}
+
+// The sums of the first `count` floats of x and of those of y, each float times the sign that stands `by` places further on in b, which is read once for both: in 32 columns each, of
+// which several are added at once.
+fn dots(x: &[f32], y: &[f32], b: &[f32], by: usize, count: usize) -> Sums
+    requires { ⌜ (count ≤ 512) × (count % 32 ≡ 0) × (by ≤ 480) ⌝ }
+    requires { ⌜ (count ≤ length (now x)) × (count ≤ length (now y)) × (by + count ≤ length (now b)) ⌝ }
+    requires { ⌜ Samples (now x) count × Samples (now y) count × Signs (now b) (by + count) ⌝ }
+    ensures { λ r. ⌜ r ≡ sumsOf (dotOf (now (x .entry)) (now (b .entry)) by count, dotOf (now (y .entry)) (now (b .entry)) by count) ⌝ }
+{
+    let mut real = [0.0f32; 32];
+    let mut imaginary = [0.0f32; 32];
     let mut m: usize = 0;
     while m < count {
         let mut l: usize = 0;
         while l < 32 {
-            columns[l] = columns[l] + z[m + l] * b[by + m + l];
+            let sign = b[by + m + l];
+            real[l] = real[l] + x[m + l] * sign;
+            imaginary[l] = imaginary[l] + y[m + l] * sign;
             l += 1;
         }
         m += 32;
     }
-    halve(16, &mut columns);
-    halve(8, &mut columns);
-    halve(4, &mut columns);
-    halve(2, &mut columns);
-    columns[0] + columns[1]
+    let re = joined(&mut real);
+    let im = joined(&mut imaginary);
+    Sums { re: re, im: im }
 }
 
 // A user's two sums, from the turned samples and the signs of the row: turned back as far as the user is shifted.
@@ -59,8 +74,9 @@ pub fn user_sums(re: &[f32], im: &[f32], signs: &[f32], by: usize, count: usize)
     requires { ⌜ Samples (now re) count × Samples (now im) count × Signs (now signs) (by + count) ⌝ }
     ensures { λ r. ⌜ r ≡ sumsOf (turnedBack by (dotOf (now (re .entry)) (now (signs .entry)) by count, dotOf (now (im .entry)) (now (signs .entry)) by count)) ⌝ }
 {
-    let a = dot(re, signs, by, count);
-    let b = dot(im, signs, by, count);
+    let sums = dots(re, im, signs, by, count);
+    let a = sums.re;
+    let b = sums.im;
     let turns = by % 4;
     match turns {
         0 => Sums { re: a, im: b },
@@ -103,38 +119,17 @@ pub fn turn(row: &[f32], count: usize, re: &mut [f32], im: &mut [f32])
     }
 }
 
-// The sign of an element whose power of j stands where i leaves the remainder r by 4: at 4r + power. Only two powers can stand there; at the others is 0.
-const SIGNS: [f32; 16] = [
-    1.0,
-    0.0,
-    -1.0,
-    0.0, // r = 0
-    0.0,
-    1.0,
-    0.0,
-    -1.0, // r = 1
-    -1.0,
-    0.0,
-    1.0,
-    0.0, // r = 2
-    0.0,
-    -1.0,
-    0.0,
-    1.0, // r = 3
-];
-
-// The signs of the first `count` elements, from their powers of j.
+// The signs of the first `count` elements, from their powers of j: 1 less how far an element's power is past that of its place, counted from 1, which is 0 or 2.
 fn signs_of(powers: &[u8], count: usize, out: &mut [f32])
     requires { ⌜ (count ≤ length (now powers)) × (count ≤ length (now out)) × (count ≤ 512) ⌝ }
     requires { ⌜ ((k : ℕ) → k < count → getD (now powers) k 0 < 4) ⌝ }
-    ensures { λ _. ⌜ ((m : ℕ) → m < count → getD (now (out .exit)) m nan ≡ getD signTable (4 * ((m + 1) % 4) + getD (now (powers .entry)) m 0) nan) ⌝ }
+    ensures { λ _. ⌜ ((m : ℕ) → m < count → getD (now (out .exit)) m nan ≡ signFrom ((m + 1) % 4) (getD (now (powers .entry)) m 0)) ⌝ }
 {
-    let table = SIGNS;
     let mut i: usize = 0;
     while i < count {
-        let r = (i + 1) % 4;
-        let p = powers[i] as usize;
-        out[i] = table[4 * r + p];
+        let place = ((i + 1) % 4) as u32;
+        let past = (powers[i] as u32 + 4 - place) % 4;
+        out[i] = 1.0 - past as f32;
         i += 1;
     }
 }

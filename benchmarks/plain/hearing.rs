@@ -3,7 +3,7 @@
 //! (-j)^shift. All in f32, in lanes: every sum is a whole number below 2^24, and so exact in whatever order it is added.
 
 use super::digits::row_of;
-use super::midambles::{code_of, good_count, permitted, shift, Code, LONG, SHORT};
+use super::midambles::{code_of, count_refusal, permitted, shift, Code, LONG, SHORT};
 use library::MqHear;
 use std::array::from_fn;
 
@@ -174,14 +174,9 @@ fn loudest(users: &[u32], sums: &[[f32; 2]; 16]) -> MqHear {
 }
 
 fn refusal(cell: u32, burst: u32, count: u32, row: &[f32]) -> u32 {
-    if cell > 127 {
-        return 1;
-    }
-    if burst < 1 || burst > 3 {
-        return 2;
-    }
-    if !good_count(burst, count) {
-        return 3;
+    let n = count_refusal(cell, burst, count);
+    if n != 0 {
+        return n;
     }
     let floats = 2 * code_of(burst).length as usize;
     if row.len() < floats {

@@ -22,7 +22,9 @@ pub fn code_of(burst: u32) -> Code {
     Code { base: 8, step: 57, half: 28, length: 512 }
 }
 
-pub fn user_refusal(cell: u32, burst: u32, count: u32, user: u32) -> u32 {
+/// The refusals that need no user: 1, 2 and 3.
+#[inline(always)]
+pub fn count_refusal(cell: u32, burst: u32, count: u32) -> u32 {
     if cell > 127 {
         return 1;
     }
@@ -32,10 +34,15 @@ pub fn user_refusal(cell: u32, burst: u32, count: u32, user: u32) -> u32 {
     if !good_count(burst, count) {
         return 3;
     }
-    if !permitted(count, user) {
+    0
+}
+
+pub fn user_refusal(cell: u32, burst: u32, count: u32, user: u32) -> u32 {
+    let n = count_refusal(cell, burst, count);
+    if n == 0 && !permitted(count, user) {
         return 4;
     }
-    0
+    n
 }
 
 pub fn good_count(burst: u32, count: u32) -> bool {

@@ -1,11 +1,12 @@
 // Document 01, "Beacon timeslots": which timeslots of a frame are beacon timeslots. The booking rules (a) to (f) belong to the class book.
+#![tactic(auto)]
 ghost use Rattle.std.specs.Prelude.{◌≡◌};
 ghost use Rattle.conditions.specs.Conditions.{bad_beacon};
 ghost use Rattle.beacons.specs.Beacons.{is_beacon};
 ghost use Rattle.beacons.specs.Calls.{said_beacon, beacon_answer};
 
 // The beacon timeslots of a frame: one in case 1, two in case 2.
-#[derive(Drop)]
+#[derive(Clone, Copy)]
 pub enum BeaconAnswer {
     Refused(u32),
     One(u32),

@@ -14,7 +14,7 @@ use lesson_words::numbers::Values;
 use lesson_words::{numbers, samples, words};
 
 // A line was answered: the place of the next byte of output, and the book as it now is.
-#[derive(Drop)]
+#[derive(Clone, Copy)]
 pub struct Turn {
     pub at: usize,
     pub book: Book,

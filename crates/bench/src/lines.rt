@@ -11,7 +11,7 @@ use lesson_words::words;
 
 // What goes on from line to line: the book; how many lines there were; how many bytes of the next one are gathered, 8192 standing for any that are too many;
 // the place of the next byte of output; and whether each line is written before its reply.
-#[derive(Drop)]
+#[derive(Clone, Copy)]
 pub struct Session {
     pub book: Book,
     pub number: u64,

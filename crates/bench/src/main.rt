@@ -1,6 +1,7 @@
 // The program `bench`: one call a line on standard input, one reply each on standard output (docs/LESSONS.md). The calls are those of the proved crates.
 // Here lines are gathered and handed on by their first word, and what comes back is printed; the words are read by `lesson_words`. Replies are written out before each wait for input.
 // A program has no exit status of its own: what is no call, and what can't be read or written, `printing` tells `./bench`.
+#![tactic(auto)]
 mod book_calls;
 mod calls;
 mod lines;

@@ -1,4 +1,5 @@
 // Midambles by the block (document 02, C-15): a place in a midamble, and lent blocks that are filled from there, one after another.
+#![tactic(auto)]
 ghost use Rattle.std.specs.Prelude.{◌≡◌, ◌++◌, ◌+◌, ◌<◌, ◌≤◌, length, take, drop};
 ghost use Rattle.refusals.specs.Refusals.{◌leaving◌, first_of};
 ghost use Rattle.codes.specs.Codes.{code_of};
@@ -6,7 +7,7 @@ ghost use Rattle.blocks.specs.Blocks.{to_come, block_of, place_behind};
 ghost use Rattle.blocks.specs.Calls.{start_answer, block_refusals, block_outcome, said_start, said_block};
 
 // A place in a midamble: cell parameter, burst type, count and user, and how many of its chips are written already.
-#[derive(Drop)]
+#[derive(Clone, Copy)]
 pub struct Place {
     pub cell: u32,
     pub burst: u32,
@@ -16,21 +17,21 @@ pub struct Place {
 }
 
 // Where a midamble starts.
-#[derive(Drop)]
+#[derive(Clone, Copy)]
 pub enum StartAnswer {
     Refused(u32),
     At(Place),
 }
 
 // How many chips were written into a block.
-#[derive(Drop)]
+#[derive(Clone, Copy)]
 pub enum BlockAnswer {
     Refused(u32),
     Written(u32),
 }
 
 // The answer for a block, and the place behind its chips; refused, the place that was handed in.
-#[derive(Drop)]
+#[derive(Clone, Copy)]
 pub struct BlockReply {
     pub answer: BlockAnswer,
     pub place: Place,

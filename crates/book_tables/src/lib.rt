@@ -1,4 +1,5 @@
 // What one walk through the class book finds, and which refusal each call on the book gets from it, if any: the tables of document 01, read row by row.
+#![tactic(auto)]
 ghost use Rattle.std.specs.Prelude.{◌≡◌, true, false, ◌&&◌, ◌+◌, ◌-◌, ◌≤◌, min, eqb, leb};
 ghost use Rattle.refusals.specs.Refusals.{first_of};
 ghost use Rattle.refusals.specs.Inside.{row_by_row};
@@ -10,7 +11,7 @@ use bookings::Booking;
 use seats::Seat;
 
 // Of the seats passed: whether each meets its conditions, and what they hold beyond their first tens.
-#[derive(Drop)]
+#[derive(Clone, Copy)]
 pub struct Tally {
     pub ok: bool,
     pub used: usize,

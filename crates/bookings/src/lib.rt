@@ -1,11 +1,12 @@
 // One booking: what it must meet by itself, and where it stands in a list.
+#![tactic(auto)]
 ghost use Rattle.std.specs.Prelude.{◌≡◌, not, ◌&&◌, ◌||◌, ◌≤◌, eqb};
 ghost use Rattle.bookings.specs.Bookings.{form_of, key, comes, breaks_beacon};
 
 use conditions::Direction;
 
 // A booking of a seat. Its numbers were tested when it was booked, so they are kept in a byte each.
-#[derive(Drop)]
+#[derive(Clone, Copy)]
 pub struct Booking {
     pub timeslot: u8,
     pub direction: Direction,

@@ -1,5 +1,6 @@
 // The class book (document 01, "The class book"): sixteen seats in one value, which goes into each call and comes back with its answer.
 // Any book may be handed in: each call first decides whether it meets its conditions.
+#![tactic(auto)]
 mod walk;
 
 ghost use Rattle.std.specs.Prelude.{◌≡◌, ◌≤◌};
@@ -12,13 +13,13 @@ use bookings::Booking;
 use conditions::Direction;
 use seats::Seat;
 
-#[derive(Drop)]
+#[derive(Clone, Copy)]
 pub struct Book {
     pub seats: [Seat; 16],
 }
 
 // A booking as a learner asks for it, in numbers of any size.
-#[derive(Drop)]
+#[derive(Clone, Copy)]
 pub struct Request {
     pub timeslot: u32,
     pub direction: Direction,
@@ -31,14 +32,14 @@ pub struct Request {
 }
 
 // The refusal's number, or 0, and the book as the call leaves it.
-#[derive(Drop)]
+#[derive(Clone, Copy)]
 pub struct BookAnswer {
     pub refusal: u32,
     pub book: Book,
 }
 
 // The refusal's number, or 0; how many bookings; and a row of which the first so many are the bookings in list order.
-#[derive(Drop)]
+#[derive(Clone, Copy)]
 pub struct ListAnswer {
     pub refusal: u32,
     pub count: u32,
@@ -46,7 +47,7 @@ pub struct ListAnswer {
 }
 
 // The refusal's number, or 0, of a call that only asks a seat; and the seat that it names, above 15 a closed one.
-#[derive(Drop)]
+#[derive(Clone, Copy)]
 pub struct SeatAnswer {
     pub refusal: u32,
     pub seat: Seat,

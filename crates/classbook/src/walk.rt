@@ -7,7 +7,7 @@ use book_tables::Tally;
 use seats::Seat;
 
 // What it finds: whether the book meets its conditions, the common room in use, and the seat that a call names.
-#[derive(Drop)]
+#[derive(Clone, Copy)]
 pub struct Found {
     pub ok: bool,
     pub used: usize,

@@ -1,4 +1,5 @@
 // What benchmarks/run measures: the sums of sixteen users, without the rest of the call. Nothing here is part of the library.
+#![tactic(auto)]
 ghost use Rattle.std.specs.Prelude.{◌≤◌, length};
 ghost use Rattle.correlation.specs.Inside.{Samples, Signs, reach};
 

@@ -2,6 +2,7 @@
 // A chip is a power of j with a sign. The samples are turned back by their powers of j once, for all users; then a user's sums are the turned samples added with the signs of the row,
 // as far on as the user is shifted, and turned back by that shift.
 // Public for the crate hearing, whose call has tested the cell and the samples before, and for correlating, which measures them.
+#![tactic(auto)]
 ghost use Rattle.std.specs.Prelude.{◌≡◌, ℕ, ◌≤◌, ◌<◌, ◌+◌, ◌-◌, ◌*◌, ◌%◌, ◌^◌, length, get_or, ◌+ℤ◌};
 ghost use Rattle.std.specs.Float.{nan, binary32};
 ghost use Rattle.std.specs.Float.Ieee.{of_int};
@@ -10,7 +11,7 @@ ghost use Rattle.samples.specs.Samples.{sample_of};
 ghost use Rattle.correlation.specs.Inside.{turned_back, sums_of, Samples, Signs, Wholes, dot_of, Turned, sign_from, reach, HoldsSigns};
 
 // The real and the imaginary sum of a user.
-#[derive(Drop)]
+#[derive(Clone, Copy)]
 pub struct Sums {
     pub re: f32,
     pub im: f32,

@@ -1,4 +1,5 @@
 // What benchmarks/run measures: bookings in the class book, called over plain numbers. Nothing here is part of the library.
+#![tactic(auto)]
 ghost use Rattle.std.specs.Prelude.{◌≤◌};
 
 use bookings::Booking;

@@ -1,4 +1,5 @@
 // Who is on the air (document 02, C-18): of received samples, the permitted user whose midamble they hold most of, with the two sums; or nobody.
+#![tactic(auto)]
 ghost use Rattle.std.specs.Prelude.{◌≡◌, ◌≤◌, ◌+◌, ◌*◌, ltb, length, nat_abs};
 ghost use Rattle.std.specs.Float.{binary32};
 ghost use Rattle.std.specs.Float.Ieee.{of_int};
@@ -10,7 +11,7 @@ ghost use Rattle.hearing.specs.Calls.{hear_answer, said_hear};
 ghost use Rattle.hearing.specs.Inside.{square, heard_as, loudest_in, heard_in};
 
 // Who is heard: nobody, or a user with the real and the imaginary sum.
-#[derive(Drop)]
+#[derive(Clone, Copy)]
 pub enum HearAnswer {
     Refused(u32),
     Nobody,

@@ -5,7 +5,7 @@ ghost use Rattle.lesson_replies.specs.Replies.{refused_reply, line_reply};
 
 use crate::say;
 
-#[derive(Drop)]
+#[derive(Clone, Copy)]
 pub struct Reply {
     pub refusal: u32,
     pub form: u32,

@@ -10,7 +10,7 @@ use slots::Way;
 use summaries::{Glance, SummaryReply};
 
 // A reply: a refusal, or a line of the form in `summary` with its numbers.
-#[derive(Drop)]
+#[derive(Clone, Copy)]
 pub struct SummaryLine {
     pub refusal: u32,
     pub form: u32,

@@ -7,7 +7,7 @@ use crate::words;
 use conditions::Direction;
 
 // Whether a word is what is expected, and its value.
-#[derive(Drop)]
+#[derive(Clone, Copy)]
 pub struct Meaning {
     pub fit: bool,
     pub value: u32,
@@ -119,7 +119,7 @@ fn stored(values: [u32; 9], i: usize, value: u32) -> [u32; 9]
 }
 
 // What the words of a line stand for, in their order.
-#[derive(Drop)]
+#[derive(Clone, Copy)]
 pub struct Values {
     pub first: u32,
     pub second: u32,
@@ -150,7 +150,7 @@ fn nine(v: [u32; 9]) -> Values
 }
 
 // The words of a line: whether they are those that a call wants, what each stands for, and where the last of them stands.
-#[derive(Drop)]
+#[derive(Clone, Copy)]
 pub struct Line {
     pub fit: bool,
     pub values: Values,

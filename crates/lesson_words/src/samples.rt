@@ -6,7 +6,7 @@ use crate::numbers::Meaning;
 use crate::{numbers, words};
 
 // Whether a word is a sample, how large it is, and whether it has a minus sign.
-#[derive(Drop)]
+#[derive(Clone, Copy)]
 pub struct Sample {
     pub fit: bool,
     pub size: u32,
@@ -69,7 +69,7 @@ fn float(s: Sample) -> f32
 }
 
 // The samples of a text: whether its words are such, as many as there is room for or fewer, and how many floats were written.
-#[derive(Drop)]
+#[derive(Clone, Copy)]
 pub struct Samples {
     pub fit: bool,
     pub count: usize,

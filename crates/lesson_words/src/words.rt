@@ -57,7 +57,7 @@ fn word_end(text: &[u8], from: usize) -> usize
 }
 
 // Where a word stands: its first place, and the place behind it.
-#[derive(Drop)]
+#[derive(Clone, Copy)]
 pub struct Span {
     pub from: usize,
     pub to: usize,
@@ -105,7 +105,7 @@ pub fn same(text: &[u8], name: &[u8]) -> bool
 }
 
 // A call's number in a table of calls, and where the kinds of its words stand there.
-#[derive(Drop)]
+#[derive(Clone, Copy)]
 pub struct Found {
     pub number: u32,
     pub from: usize,

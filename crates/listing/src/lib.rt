@@ -1,4 +1,5 @@
 // Document 01, "The class book": a list goes into a lent row of booking records.
+#![tactic(auto)]
 ghost use Rattle.std.specs.Prelude.{◌≡◌, ◌++◌, ◌<◌, ◌≤◌, ltb, length, take, drop, get_or};
 ghost use Rattle.seats.specs.Seats.{blank};
 ghost use Rattle.refusals.specs.Refusals.{◌leaving◌};
@@ -9,7 +10,7 @@ use bookings::Booking;
 use classbook::{Book, ListAnswer};
 
 // What a list answers: a refusal's number, or how many records it wrote.
-#[derive(Drop)]
+#[derive(Clone, Copy)]
 pub enum ListReply {
     Refused(u32),
     Listed(u32),

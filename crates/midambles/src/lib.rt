@@ -1,17 +1,18 @@
 // Training sequences (document 01, "Training sequences"; TS 25.221 clause 5.2.3 and Annex A): one midamble chip, and a whole midamble.
+#![tactic(auto)]
 ghost use Rattle.std.specs.Prelude.{◌≡◌};
 ghost use Rattle.refusals.specs.Refusals.{◌leaving◌};
 ghost use Rattle.midambles.specs.Calls.{chip_answer, midamble_outcome, said_chip, said_midamble};
 
 // One chip: its power of j, 0 to 3.
-#[derive(Drop)]
+#[derive(Clone, Copy)]
 pub enum ChipAnswer {
     Refused(u32),
     Power(u8),
 }
 
 // A whole midamble: how many bytes were written.
-#[derive(Drop)]
+#[derive(Clone, Copy)]
 pub enum MidambleAnswer {
     Refused(u32),
     Written(u32),

@@ -7,7 +7,7 @@ use hearing::HearAnswer;
 
 // Who is heard: a user with the real and the imaginary sum; user 0 is nobody.
 #[repr(C)]
-#[derive(Drop)]
+#[derive(Clone, Copy)]
 pub struct MqHear {
     pub refusal: u32,
     pub user: u32,

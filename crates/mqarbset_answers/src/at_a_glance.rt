@@ -7,7 +7,7 @@ use summaries::SummaryReply;
 
 // What a seat's bookings say of a timeslot: leaf l is bit 2^l of the leaves; direction 0 is up, 1 is down, 2 is none; and how many bookings.
 #[repr(C)]
-#[derive(Drop)]
+#[derive(Clone, Copy)]
 pub struct MqSummary {
     pub refusal: u32,
     pub leaves: u32,

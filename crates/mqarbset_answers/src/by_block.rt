@@ -7,7 +7,7 @@ use blocks::{BlockAnswer, Place, StartAnswer};
 
 // A place in a midamble, which the caller holds: cell parameter, burst type, count and user, and how many chips are written already.
 #[repr(C)]
-#[derive(Drop)]
+#[derive(Clone, Copy)]
 pub struct MqBlockPlace {
     pub cell: u32,
     pub burst: u32,
@@ -18,7 +18,7 @@ pub struct MqBlockPlace {
 
 // Where a midamble starts; refused, all of the place is 0.
 #[repr(C)]
-#[derive(Drop)]
+#[derive(Clone, Copy)]
 pub struct MqBlockStart {
     pub refusal: u32,
     pub place: MqBlockPlace,
@@ -26,7 +26,7 @@ pub struct MqBlockStart {
 
 // How many chips were written into a block, and the place behind them; refused, the place that was handed in.
 #[repr(C)]
-#[derive(Drop)]
+#[derive(Clone, Copy)]
 pub struct MqBlock {
     pub refusal: u32,
     pub written: u32,

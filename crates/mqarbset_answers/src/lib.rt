@@ -1,4 +1,5 @@
 // The answers of documents 01 and 02 as the structs of the C interface: each case of a call's enum turned into the struct.
+#![tactic(auto)]
 pub mod air;
 pub mod at_a_glance;
 pub mod by_block;
@@ -16,7 +17,7 @@ use refusal_words::WordsAnswer;
 
 // What a call answers over C: the refusal's number, or 0 where it answered; the value, or 0 where it refused.
 #[repr(C)]
-#[derive(Drop)]
+#[derive(Clone, Copy)]
 pub struct MqAnswer {
     pub refusal: u32,
     pub value: u32,

@@ -9,7 +9,7 @@ use paging::{IndicatorAnswer, OwnerAnswer, PageAnswer, ReadPageAnswer};
 
 // Where an indicator sits: its frame, its number q there, and `length` carrying bits from `first` and from `second`.
 #[repr(C)]
-#[derive(Drop)]
+#[derive(Clone, Copy)]
 pub struct MqIndicator {
     pub refusal: u32,
     pub frame: u32,
@@ -21,7 +21,7 @@ pub struct MqIndicator {
 
 // Who owns a paging bit: it is reserved (1), or it belongs to indicator q (0).
 #[repr(C)]
-#[derive(Drop)]
+#[derive(Clone, Copy)]
 pub struct MqOwner {
     pub refusal: u32,
     pub reserved: u32,

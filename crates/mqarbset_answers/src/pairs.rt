@@ -9,7 +9,7 @@ use signal_card::{PairAnswer, PairsAnswer};
 
 // One complex chip at a level: its real part and its imaginary part.
 #[repr(C)]
-#[derive(Drop)]
+#[derive(Clone, Copy)]
 pub struct MqPair {
     pub refusal: u32,
     pub re: f32,

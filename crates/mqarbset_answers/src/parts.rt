@@ -9,7 +9,7 @@ use timeslots::{AtAnswer, PartsAnswer, Symbol};
 
 // The seven parts in time order: data 1, first half of TFCI, midamble, TPC, second half of TFCI, data 2, guard; and the bits of both data parts.
 #[repr(C)]
-#[derive(Drop)]
+#[derive(Clone, Copy)]
 pub struct MqParts {
     pub refusal: u32,
     pub start: [u32; 7],
@@ -19,7 +19,7 @@ pub struct MqParts {
 
 // What lies at a chip: the part, 1 to 7 in time order, and the symbol number in it (midamble and guard: the offset), from 0.
 #[repr(C)]
-#[derive(Drop)]
+#[derive(Clone, Copy)]
 pub struct MqPlace {
     pub refusal: u32,
     pub part: u32,
@@ -28,7 +28,7 @@ pub struct MqPlace {
 
 // The beacon timeslots of a frame: how many, and which.
 #[repr(C)]
-#[derive(Drop)]
+#[derive(Clone, Copy)]
 pub struct MqBeacons {
     pub refusal: u32,
     pub count: u32,

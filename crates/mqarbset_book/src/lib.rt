@@ -1,4 +1,5 @@
 // The class book as a C caller holds it, in bytes: read, written, and handed back with an answer. Whatever bytes a caller hands in are a value of their type.
+#![tactic(auto)]
 mod reading;
 mod writing;
 
@@ -13,7 +14,7 @@ pub use reading::read_book;
 
 // A booking in eight bytes: direction 0 is up, 1 is down.
 #[repr(C)]
-#[derive(Drop)]
+#[derive(Clone, Copy)]
 pub struct MqBooking {
     pub timeslot: u8,
     pub direction: u8,
@@ -27,7 +28,7 @@ pub struct MqBooking {
 
 // What is kept of a timeslot, in five bytes: the pattern's low and high byte, the way (0 neither, 1 up, 2 down), how many bookings, and 1 where they are type 2.
 #[repr(C)]
-#[derive(Drop)]
+#[derive(Clone, Copy)]
 pub struct MqSlot {
     pub low: u8,
     pub high: u8,
@@ -38,7 +39,7 @@ pub struct MqSlot {
 
 // A seat: live 0 is closed, 1 is open.
 #[repr(C)]
-#[derive(Drop)]
+#[derive(Clone, Copy)]
 pub struct MqSeat {
     pub live: u8,
     pub cell: u8,
@@ -52,14 +53,14 @@ pub struct MqSeat {
 }
 
 #[repr(C)]
-#[derive(Drop)]
+#[derive(Clone, Copy)]
 pub struct MqBook {
     pub seats: [MqSeat; 16],
 }
 
 // The refusal's number, or 0, and the book as the call leaves it.
 #[repr(C)]
-#[derive(Drop)]
+#[derive(Clone, Copy)]
 pub struct MqBookAnswer {
     pub refusal: u32,
     pub book: MqBook,

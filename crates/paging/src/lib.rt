@@ -1,4 +1,5 @@
 // Document 01, "Paging bits (clause 5.3.7)": where an indicator's bits lie, and how a frame's indicators are written and read.
+#![tactic(auto)]
 ghost use Rattle.std.specs.Prelude.{◌≡◌};
 ghost use Rattle.refusals.specs.Refusals.{◌leaving◌};
 ghost use Rattle.paging_bits.specs.Bits.{per_frame};
@@ -6,7 +7,7 @@ ghost use Rattle.paging.specs.Paging.{half_of};
 ghost use Rattle.paging.specs.Calls.{said_indicator, indicator_answer, said_owner, owner_answer, said_page, page_outcome, said_read_page, read_page_outcome};
 
 // Where an indicator sits: its frame, its number q there, and `length` carrying bits from `first` and from `second`.
-#[derive(Drop)]
+#[derive(Clone, Copy)]
 pub enum IndicatorAnswer {
     Refused(u32),
     Placed {
@@ -19,7 +20,7 @@ pub enum IndicatorAnswer {
 }
 
 // Which indicator owns a bit.
-#[derive(Drop)]
+#[derive(Clone, Copy)]
 pub enum OwnerAnswer {
     Refused(u32),
     Reserved,
@@ -27,14 +28,14 @@ pub enum OwnerAnswer {
 }
 
 // How many bits were written.
-#[derive(Drop)]
+#[derive(Clone, Copy)]
 pub enum PageAnswer {
     Refused(u32),
     Written(u32),
 }
 
 // How many readings were written.
-#[derive(Drop)]
+#[derive(Clone, Copy)]
 pub enum ReadPageAnswer {
     Refused(u32),
     Written(u32),

@@ -1,6 +1,7 @@
 // Lines for standard output. Bytes go into a lent buffer (`io::buffer()`), which is written out whenever it is full.
 // Each call takes the place of the next byte, 0 at first, and gives back the place after what it put; `flush` writes the rest. Where standard output takes no more,
 // that is said once on standard error, and the place is CLOSED from then on: nothing is put, and nothing is written. No call asks anything.
+#![tactic(auto)]
 
 // The place of the next byte where none can be written.
 pub const CLOSED: usize = 4097;

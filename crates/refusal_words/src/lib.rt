@@ -1,10 +1,11 @@
 // The words of each refusal, for a caller over C to show and for the program `bench`: document 01's, but for 3, 4, 16 and 22 to 24, whose words docs/LESSONS.md has.
+#![tactic(auto)]
 ghost use Rattle.std.specs.Prelude.{◌≡◌, ◌++◌, ◌≤◌, length, drop};
 ghost use Rattle.refusals.specs.Refusals.{◌leaving◌};
 ghost use Rattle.refusal_words.specs.Words.{said_words, putting, words_outcome};
 
 // How many bytes were written.
-#[derive(Drop)]
+#[derive(Clone, Copy)]
 pub enum WordsAnswer {
     Refused(u32),
     Written(u32),

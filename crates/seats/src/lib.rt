@@ -1,6 +1,7 @@
 // The class book, one seat of it (document 01, "The class book"): its settings, its row of bookings, kept sorted as it is listed and blank behind them, and what they
 // say of each timeslot (document 02, C-16).
 // `rules` has the refusals 16 to 18, `valid` the conditions of a seat.
+#![tactic(auto)]
 pub mod rules;
 pub mod valid;
 
@@ -12,7 +13,7 @@ use conditions::Direction;
 use slots::Slot;
 
 // A seat. Closed, its numbers are zero, its row is blank and its timeslots are without bookings.
-#[derive(Drop)]
+#[derive(Clone, Copy)]
 pub struct Seat {
     pub live: bool,
     pub cell: u8,

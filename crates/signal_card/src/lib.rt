@@ -1,4 +1,5 @@
 // Chips for the signal card (document 02, C-12): any chip of any user as two f32 numbers at a chosen level, and a whole midamble into a lent row of them.
+#![tactic(auto)]
 ghost use Rattle.std.specs.Prelude.{◌≡◌, ◌++◌, [], ◌∷◌, ℕ, ◌*◌, ◌<◌, ◌≤◌, length, take, drop, get_or};
 ghost use Rattle.conditions.specs.Conditions.{bad_level};
 ghost use Rattle.refusals.specs.Refusals.{◌leaving◌, first_of, answer};
@@ -9,21 +10,21 @@ ghost use Rattle.signal_card.specs.Inside.{chip_in};
 use midambles::ChipAnswer;
 
 // One complex chip at a level: its real part and its imaginary part.
-#[derive(Drop)]
+#[derive(Clone, Copy)]
 pub struct ComplexChip {
     pub re: f32,
     pub im: f32,
 }
 
 // One chip at a level.
-#[derive(Drop)]
+#[derive(Clone, Copy)]
 pub enum PairAnswer {
     Refused(u32),
     Pair(ComplexChip),
 }
 
 // A whole midamble at a level: how many floats were written.
-#[derive(Drop)]
+#[derive(Clone, Copy)]
 pub enum PairsAnswer {
     Refused(u32),
     Written(u32),

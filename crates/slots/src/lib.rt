@@ -1,5 +1,6 @@
 // What a seat's bookings say of one timeslot (document 02, C-16), kept beside them: which leaves are covered, which direction, how many, and whether they are type 2.
 // A booking is tested against it, and joins it, by the mask of its code.
+#![tactic(auto)]
 ghost use Rattle.std.specs.Prelude.{◌≡◌, false, not, ◌<◌, eqb};
 ghost use Rattle.std.specs.Int.Bits.{bit_and};
 ghost use Rattle.conditions.specs.Conditions.{bad_code};
@@ -10,7 +11,7 @@ use bookings::Booking;
 use conditions::Direction;
 
 // The direction of a timeslot's bookings, or that there is none.
-#[derive(Drop)]
+#[derive(Clone, Copy)]
 pub enum Way {
     Neither,
     Up,
@@ -18,7 +19,7 @@ pub enum Way {
 }
 
 // One timeslot of a seat. Leaf l is bit 2^l of the pattern.
-#[derive(Drop)]
+#[derive(Clone, Copy)]
 pub struct Slot {
     pub leaves: u16,
     pub way: Way,

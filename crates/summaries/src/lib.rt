@@ -1,4 +1,5 @@
 // Document 02, C-16, "Free codes at a glance": what a seat's bookings say of a timeslot, as it is kept beside them.
+#![tactic(auto)]
 ghost use Rattle.std.specs.Prelude.{◌≡◌};
 ghost use Rattle.refusals.specs.Refusals.{answered};
 ghost use Rattle.summaries.specs.Summaries.{glance_of, summary_answer, said_summary};
@@ -7,7 +8,7 @@ use classbook::Book;
 use slots::{Slot, Way};
 
 // The leaves that are covered, leaf l being bit 2^l; the direction of the bookings, or that there is none; and how many they are.
-#[derive(Drop)]
+#[derive(Clone, Copy)]
 pub struct Glance {
     pub leaves: u16,
     pub way: Way,
@@ -15,7 +16,7 @@ pub struct Glance {
 }
 
 // What a summary answers: a refusal's number, or the summary.
-#[derive(Drop)]
+#[derive(Clone, Copy)]
 pub enum SummaryReply {
     Refused(u32),
     Summed(Glance),

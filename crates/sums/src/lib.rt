@@ -1,1 +1,2 @@
 // No code: this crate holds the laws on sums of whole numbers. They stand in specs/ and proofs/.
+#![tactic(auto)]

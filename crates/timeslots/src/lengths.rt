@@ -34,7 +34,7 @@ pub fn control_chips(direction: Direction, factor: u32) -> u32
 }
 
 // The lengths of the seven parts, in time order.
-#[derive(Drop)]
+#[derive(Clone, Copy)]
 pub struct Lengths {
     pub data1: u32,
     pub tfci1: u32,

@@ -1,4 +1,5 @@
 // Document 01, "Parts of a timeslot (clause 5.2.2)": where the seven parts lie, and what lies at a chip.
+#![tactic(auto)]
 mod lengths;
 mod places;
 
@@ -8,14 +9,14 @@ ghost use Rattle.timeslots.specs.Calls.{said_parts, parts_answer, said_at, at_an
 use conditions::Direction;
 
 // A part of the timeslot: its first chip and its length in chips.
-#[derive(Drop)]
+#[derive(Clone, Copy)]
 pub struct Span {
     pub start: u32,
     pub length: u32,
 }
 
 // The seven parts in time order, and the bits of both data parts.
-#[derive(Drop)]
+#[derive(Clone, Copy)]
 pub struct Layout {
     pub data1: Span,
     pub tfci1: Span,
@@ -28,14 +29,14 @@ pub struct Layout {
     pub bits2: u32,
 }
 
-#[derive(Drop)]
+#[derive(Clone, Copy)]
 pub enum PartsAnswer {
     Refused(u32),
     Parts(Layout),
 }
 
 // A symbol's part, and its number in that part from 0.
-#[derive(Drop)]
+#[derive(Clone, Copy)]
 pub enum Symbol {
     Data1(u32),
     Data2(u32),
@@ -45,7 +46,7 @@ pub enum Symbol {
 }
 
 // What lies at a chip: midamble or guard with the offset in it from 0, or a symbol.
-#[derive(Drop)]
+#[derive(Clone, Copy)]
 pub enum AtAnswer {
     Refused(u32),
     Midamble(u32),

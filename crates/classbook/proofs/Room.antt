@@ -1,7 +1,7 @@
 -- Document 01, "Room": exactly when a booking that nothing else stands against is refused 19, refused 20, or accepted. Over the answer that the promise cites.
 -- Assumes nothing.
 use mathlib.Core.Path.{◌≡◌, refl, ◌∙◌}
-use mathlib.Core.Bool.{Bool, true, false, and_false}
+use mathlib.Core.Bool.{Bool, true, false, and-false}
 use mathlib.Core.List.{[], ◌∷◌}
 use Prim.Native.Nat.{ℕ, ◌≤◌, ◌<◌}
 use native.Mathlib.Omega.{arith}
@@ -64,4 +64,4 @@ module _ (b : Book) (seat : ℕ) (x : Request) (fit : Bookable b seat x) where
 
   pub accepted_room : held (seat_of b seat) < 40 → (common b ≡ 80 → ⊥) → (book_answer b seat x).refusal ≡ 0
   unfolding seat_full room_used_up first_of
-  accepted_room few room = left false false (not_forty few) (simp (ne_eqb (common b) 80 room, and_false)) 0 refl
+  accepted_room few room = left false false (not_forty few) (simp (ne_eqb (common b) 80 room, and-false)) 0 refl

@@ -2,7 +2,7 @@
 -- of the learner's own turns. Cited by Demand3. Assumes nothing.
 use mathlib.Core.Path.{◌≡◌, refl, sym, ap, ◌∙◌}
 use mathlib.Core.Logic.{⊎_elim}
-use mathlib.Core.Bool.{Bool, true, false, not, ◌&&◌, and_false}
+use mathlib.Core.Bool.{Bool, true, false, not, ◌&&◌, and-false}
 use mathlib.Core.List.{List, [], ◌∷◌}
 use Prim.Native.Nat.{ℕ}
 use native.Mathlib.Omega.{arith}
@@ -37,7 +37,7 @@ module _ (i : ℕ) where
 
   quiet_room : (a : Book) (s : Seat) → Quiet a → room_used_up a s ≡ false
   unfolding room_used_up common seat_of closed
-  quiet_room a s q = simp (ne_eqb (common a) 80 apart, and_false)
+  quiet_room a s q = simp (ne_eqb (common a) 80 apart, and-false)
     where
       none : (j : ℕ) → (j ≡ i → ⊥) → beyond (seat_of a j) ≡ 0
       none j n = ap (λ (t : Seat). beyond t) (q j n)

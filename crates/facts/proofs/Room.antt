@@ -3,7 +3,7 @@
 -- at once. No function's proof cites it: it is for the reader. Assumes nothing.
 use mathlib.Core.Path.{◌≡◌, sym, ap, ◌∙◌}
 use mathlib.Core.Logic.{⊎_elim}
-use mathlib.Core.Bool.{Bool, true, false, not, and_false}
+use mathlib.Core.Bool.{Bool, true, false, not, and-false}
 use mathlib.Core.List.{List}
 use Prim.Native.Nat.{ℕ, ◌+◌, ◌-◌, ◌≤◌, ◌<◌}
 use native.Mathlib.Omega.{arith}
@@ -59,7 +59,7 @@ module _ (c : Book) (left : common c < 80) where
 
   room_left : (s : Seat) → room_used_up c s ≡ false
   unfolding room_used_up
-  room_left s = simp (ne_eqb (common c) 80 not_used, and_false)
+  room_left s = simp (ne_eqb (common c) 80 not_used, and-false)
 
   -- it takes what b refused 20 and nothing else stands against, where the seat is the same
   taken_then : (b : Book) (other : ℕ) (x : Request) → book_ok c ≡ true

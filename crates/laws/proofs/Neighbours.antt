@@ -2,7 +2,7 @@
 -- Assumes nothing.
 use mathlib.Core.Path.{◌≡◌, refl, sym, ap, ◌∙◌}
 use mathlib.Core.Logic.{⊎_elim}
-use mathlib.Core.Bool.{Bool, true, false, ◌&&◌, and_false}
+use mathlib.Core.Bool.{Bool, true, false, ◌&&◌, and-false}
 use mathlib.Core.Bool as bool
 use mathlib.Core.List.{List, [], ◌∷◌}
 use Rattle.laws.specs.Lists.{every, pairs, chain}
@@ -24,7 +24,7 @@ module _ {A : Type 0} (R : A → A → Bool) (p : A → Bool)
   chain_pairs (x ∷ []) e = refl
   chain_pairs (x ∷ y ∷ l) e =
       ap (λ (b : Bool). R x y && b) (chain_pairs (y ∷ l) (tl p x (y ∷ l) e))
-      ∙ ⊎_elim all_true (λ f. rw f (and_false (R x y) ∙ sym (and_false (R x y && every (R x) l)))) (by_cases (pairs R (y ∷ l)))
+      ∙ ⊎_elim all_true (λ f. rw f (and-false (R x y) ∙ sym (and-false (R x y && every (R x) l)))) (by_cases (pairs R (y ∷ l)))
     where
       both_sides : Type 0
       both_sides = (R x y && pairs R (y ∷ l)) ≡ ((R x y && every (R x) l) && pairs R (y ∷ l))

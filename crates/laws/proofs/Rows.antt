@@ -2,7 +2,7 @@
 -- Assumes nothing.
 use mathlib.Core.Path.{◌≡◌, refl, sym, ◌∙◌, ap}
 use mathlib.Core.List.{List, [], ◌∷◌, ◌++◌, append_assoc}
-use mathlib.Core.Bool.{Bool, true, false, ◌&&◌, and_assoc, and_true}
+use mathlib.Core.Bool.{Bool, true, false, ◌&&◌, and_assoc, and-true}
 use Prim.Native.Nat.{ℕ, zero, suc, ◌+◌, ◌≤◌, ◌<◌}
 use native.Mathlib.Numerals.{add-one}
 use native.Mathlib.Omega.{arith}
@@ -49,7 +49,7 @@ module _ {A : Type 0} (xs : List A) (n i : ℕ) where
 
   pub ended : (P : List A → Bool) → P [] ≡ true → (ok w : Bool) → n ≤ i → (ok && P (drop i (take n xs))) ≡ w → ok ≡ w
   ended P eq ok w le inv =
-      sym (and_true ok) ∙ ap (λ (b : Bool). ok && b) (sym eq) ∙ ap (λ (l : List A). ok && P l) (sym (left_none le)) ∙ inv
+      sym (and-true ok) ∙ ap (λ (b : Bool). ok && b) (sym eq) ∙ ap (λ (l : List A). ok && P l) (sym (left_none le)) ∙ inv
 
 pub one_le : (b : Bool) → one b ≤ 1
 one_le true = omega arith
@@ -103,7 +103,7 @@ module _ {A : Type 0} (xs : List A) (i : ℕ) (P : List A → Bool) where
 
   pub left_ended : P [] ≡ true → (ok w : Bool) → length xs ≤ i → (ok && P (drop i xs)) ≡ w → ok ≡ w
   left_ended eq ok w le inv =
-      sym (and_true ok) ∙ ap (λ (b : Bool). ok && b) (sym eq) ∙ ap (λ (l : List A). ok && P l) (sym (drop_of_length-le xs {i = i} le)) ∙ inv
+      sym (and-true ok) ∙ ap (λ (b : Bool). ok && b) (sym eq) ∙ ap (λ (l : List A). ok && P l) (sym (drop_of_length-le xs {i = i} le)) ∙ inv
 
 -- A loop that ends at the first that fails: one that passed leaves the rest to be tested, and one that failed decides.
 pub goes_on : (h q w : Bool) → ((true && h) && q) ≡ w → h ≡ true → q ≡ w

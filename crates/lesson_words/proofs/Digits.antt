@@ -2,7 +2,7 @@
 -- Assumes nothing.
 use mathlib.Core.Logic.{◌⊎◌, inl, inr, ⊎_elim}
 use mathlib.Core.Path.{◌≡◌, refl, sym, ap, subst, ◌∙◌}
-use mathlib.Core.Bool.{Bool, true, false, not, ◌&&◌, and_assoc, and_true}
+use mathlib.Core.Bool.{Bool, true, false, not, ◌&&◌, and_assoc, and-true}
 use mathlib.Core.List.{List, [], ◌∷◌}
 use Prim.Native.Nat.{ℕ, ◌+◌, ◌-◌, ◌*◌, ◌<◌, ◌≤◌}
 use native.Mathlib.Numerals.{add-one}
@@ -72,7 +72,7 @@ module _ (l : List ℕ) (i : ℕ) where
 
     pub test_end : (ok : Bool) → length l ≤ i → (ok && every p (drop i l)) ≡ w → ok ≡ w
     unfolding every
-    test_end ok h inv = sym (ap (λ (m : List ℕ). ok && every p m) (drop_of_length-le l h) ∙ and_true ok) ∙ inv
+    test_end ok h inv = sym (ap (λ (m : List ℕ). ok && every p m) (drop_of_length-le l h) ∙ and-true ok) ∙ inv
 
 and_false : (b : Bool) → (b && false) ≡ false
 and_false true = refl

@@ -1,5 +1,6 @@
 // Document 01, "Beacon timeslots": which timeslots of a frame are beacon timeslots. The booking rules (a) to (f) belong to the class book.
 #![tactic(auto)]
+
 ghost use Rattle.std.specs.Prelude.{◌≡◌};
 ghost use Rattle.conditions.specs.Conditions.{bad_beacon};
 ghost use Rattle.beacons.specs.Beacons.{is_beacon};

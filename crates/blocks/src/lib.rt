@@ -1,5 +1,6 @@
 // Midambles by the block (document 02, C-15): a place in a midamble, and lent blocks that are filled from there, one after another.
 #![tactic(auto)]
+
 ghost use Rattle.std.specs.Prelude.{◌≡◌, ◌++◌, ◌+◌, ◌<◌, ◌≤◌, length, take, drop};
 ghost use Rattle.refusals.specs.Refusals.{◌leaving◌, first_of};
 ghost use Rattle.codes.specs.Codes.{code_of};

@@ -1,5 +1,6 @@
 // What one walk through the class book finds, and which refusal each call on the book gets from it, if any: the tables of document 01, read row by row.
 #![tactic(auto)]
+
 ghost use Rattle.std.specs.Prelude.{◌≡◌, true, false, ◌&&◌, ◌+◌, ◌-◌, ◌≤◌, min, eqb, leb};
 ghost use Rattle.refusals.specs.Refusals.{first_of};
 ghost use Rattle.refusals.specs.Inside.{row_by_row};

@@ -1,5 +1,6 @@
 // One booking: what it must meet by itself, and where it stands in a list.
 #![tactic(auto)]
+
 ghost use Rattle.std.specs.Prelude.{◌≡◌, not, ◌&&◌, ◌||◌, ◌≤◌, eqb};
 ghost use Rattle.bookings.specs.Bookings.{form_of, key, comes, breaks_beacon};
 

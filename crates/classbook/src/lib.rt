@@ -1,6 +1,7 @@
 // The class book (document 01, "The class book"): sixteen seats in one value, which goes into each call and comes back with its answer.
 // Any book may be handed in: each call first decides whether it meets its conditions.
 #![tactic(auto)]
+
 mod walk;
 
 ghost use Rattle.std.specs.Prelude.{◌≡◌, ◌≤◌};

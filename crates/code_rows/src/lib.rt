@@ -1,6 +1,7 @@
 // The basic codes (document 01, "Training sequences"), as two tables of bytes. Each table is named by exactly one function, which hands it out whole:
 // who reads a row fetches the table once a call and lends it on.
 #![tactic(auto)]
+
 mod long;
 mod short;
 

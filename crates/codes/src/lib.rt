@@ -1,5 +1,6 @@
 // The numbers of the two codes, how far a user's midamble is shifted (document 01, "Training sequences"), and which users a count permits (document 02, C-13).
 #![tactic(auto)]
+
 ghost use Rattle.std.specs.Prelude.{◌≡◌};
 ghost use Rattle.codes.specs.Codes.{code_of, shift_of, permitted};
 

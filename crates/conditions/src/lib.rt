@@ -1,5 +1,6 @@
 // Document 01, "Refusal numbers", and document 02's 22 and 23: the conditions on numbers, in the order of their numbers; and up and down. The tables made of them: the crate tables.
 #![tactic(auto)]
+
 ghost use Rattle.std.specs.Prelude.{eqb, ◌||◌, ◌≡◌};
 ghost use Rattle.conditions.specs.Conditions.{is_down, bad_cell, bad_type, bad_count, bad_user, bad_booked_user, bad_timeslot, bad_factor, bad_code, bad_down_factor, bad_down_type, bad_control, bad_beacon, bad_pich, bad_frames, bad_level, bad_place};
 

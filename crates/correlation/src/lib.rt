@@ -3,6 +3,7 @@
 // as far on as the user is shifted, and turned back by that shift.
 // Public for the crate hearing, whose call has tested the cell and the samples before, and for correlating, which measures them.
 #![tactic(auto)]
+
 ghost use Rattle.std.specs.Prelude.{◌≡◌, ℕ, ◌≤◌, ◌<◌, ◌+◌, ◌-◌, ◌*◌, ◌%◌, ◌^◌, length, get_or, ◌+ℤ◌};
 ghost use Rattle.std.specs.Float.{nan, binary32};
 ghost use Rattle.std.specs.Float.Ieee.{of_int};

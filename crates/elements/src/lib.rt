@@ -1,6 +1,7 @@
 // Elements read from the tables of the crate code_rows: one, and a run of them that starts and ends anywhere. Each function fetches its table once and lends a row of it.
 // Public for the crates midambles, blocks, signal_card and correlation, whose calls have tested the cell and the chip before.
 #![tactic(auto)]
+
 mod filling;
 mod reading;
 

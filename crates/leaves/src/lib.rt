@@ -1,5 +1,6 @@
 // The leaves that a code covers (document 01, "The class book"): how many, the first of them, and all of them as a pattern of 16 bits (document 02, C-16).
 #![tactic(auto)]
+
 ghost use Rattle.std.specs.Prelude.{◌≡◌, false, ◌-◌, ◌*◌, ◌≤◌};
 ghost use Rattle.conditions.specs.Conditions.{bad_code};
 ghost use Rattle.leaves.specs.Leaves.{leaves_of, covers, pattern};

@@ -83,7 +83,7 @@ fn fill(out: &mut [Booking], l: ListAnswer, n: usize)
 
 // Lists a seat's bookings into lent records. Refusals: 11, 12, 13, 14.
 pub fn list(b: Book, seat: u32, out: &mut [Booking]) -> ListReply
-    ensures { said_list result leaving (λ x. x.now) out.exit ≡ list_outcome b seat out.old }
+    ensures { said_list result leaving out.new ≡ list_outcome b seat out.old }
 {
     let size = out.len();
     let l = selected(b, seat, size);

@@ -1,5 +1,6 @@
 // Training sequences (document 01, "Training sequences"; TS 25.221 clause 5.2.3 and Annex A): one midamble chip, and a whole midamble.
 #![tactic(auto)]
+
 ghost use Rattle.std.specs.Prelude.{◌≡◌};
 ghost use Rattle.refusals.specs.Refusals.{◌leaving◌};
 ghost use Rattle.midambles.specs.Calls.{chip_answer, midamble_outcome, said_chip, said_midamble};
@@ -34,7 +35,7 @@ pub fn midamble_chip(cell: u32, burst: u32, count: u32, user: u32, chip: u32) ->
 
 // All chips of a user's midamble, into the first 512 (type 2: 256) bytes of `out`; further bytes stay as they are. Refusals: 1, 2, 3, 4, 11.
 pub fn midamble(cell: u32, burst: u32, count: u32, user: u32, out: &mut [u8]) -> MidambleAnswer
-    ensures { said_midamble result leaving (λ x. x.now) out.exit ≡ midamble_outcome cell burst count user out.old }
+    ensures { said_midamble result leaving out.new ≡ midamble_outcome cell burst count user out.old }
 {
     let length = codes::code_of(burst).length;
     let n = tables::user_refusal(cell, burst, count, user);

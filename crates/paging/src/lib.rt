@@ -1,5 +1,6 @@
 // Document 01, "Paging bits (clause 5.3.7)": where an indicator's bits lie, and how a frame's indicators are written and read.
 #![tactic(auto)]
+
 ghost use Rattle.std.specs.Prelude.{◌≡◌};
 ghost use Rattle.refusals.specs.Refusals.{◌leaving◌};
 ghost use Rattle.paging_bits.specs.Bits.{per_frame};
@@ -106,7 +107,7 @@ pub fn owner(burst: u32, length: u32, bit: u32) -> OwnerAnswer
 
 // One frame's settings as bits, into the first places of `out`. Refusals: 2, 10, 11.
 pub fn page(burst: u32, length: u32, settings: &[u8], out: &mut [u8]) -> PageAnswer
-    ensures { said_page result leaving (λ x. x.now) out.exit ≡ page_outcome burst length settings.now out.old }
+    ensures { said_page result leaving out.new ≡ page_outcome burst length settings.now out.old }
 {
     let half = half_of(burst);
     let per = per_frame(length, half);
@@ -124,7 +125,7 @@ pub fn page(burst: u32, length: u32, settings: &[u8], out: &mut [u8]) -> PageAns
 
 // One byte for each q, 0 off, 1 on, 2 torn, into the first places of `out`. Refusals: 2, 10, 11.
 pub fn read_page(burst: u32, length: u32, bits: &[u8], out: &mut [u8]) -> ReadPageAnswer
-    ensures { said_read_page result leaving (λ x. x.now) out.exit ≡ read_page_outcome burst length bits.now out.old }
+    ensures { said_read_page result leaving out.new ≡ read_page_outcome burst length bits.now out.old }
 {
     let half = half_of(burst);
     let per = per_frame(length, half);

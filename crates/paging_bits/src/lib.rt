@@ -1,6 +1,7 @@
 // Document 01, "Paging bits (clause 5.3.7)": the bits of one frame in time order, written and read. Nothing here is a call of document 01: `fill` and `scan` are public for the
 // crate `paging`, whose calls have tested what they require.
 #![tactic(auto)]
+
 ghost use Rattle.std.specs.Prelude.{◌≡◌, ◌++◌, ◌+◌, ◌*◌, ◌≤◌, take, drop, replicate};
 ghost use Rattle.paging_bits.specs.Bits.{bits_in, as_bit, runs_of, burst_of, ones_from, heard, readings_of};
 ghost use Rattle.paging_bits.specs.Inside.{Fits, Holds, put_at};

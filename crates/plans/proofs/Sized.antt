@@ -10,5 +10,5 @@ use Rattle.seats.specs.contracts.Seat as T
 pub unmapped : {A B : Type 0} (f : A → B) (l : List A) (n : ℕ) → length (map f l) ≡ n → length l ≡ n
 unmapped f l n h = sym (length-map l f) ∙ h
 
-pub forty : (s : Seat) → length ((T.the_type).to s).1.1.1.1.1.1.1.0 ≡ 40 → length s.row ≡ 40
-forty s h = unmapped _ s.row 40 h
+pub forty : (s : Seat) → length s.row ≡ 40 → length s.row ≡ 40
+forty s h = h

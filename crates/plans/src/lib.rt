@@ -1,6 +1,7 @@
 // The class book, what a booking and a cancelling make of a seat: its row moves up or down behind the place, and its timeslot says what it holds then. No calls of
 // document 01: public for the crate classbook, whose calls have tested before what is required here.
 #![tactic(auto)]
+
 ghost use Rattle.std.specs.Prelude.{◌≡◌, true, false, cond, not, ◌++◌, ◌∷◌, [], ◌≤◌, ◌<◌, eqb, leb, take};
 ghost use Rattle.laws.specs.Lists.{one, every, insert_at, remove_at};
 ghost use Rattle.conditions.specs.Conditions.{bad_timeslot, bad_code};

@@ -1,5 +1,6 @@
 // The words of each refusal, for a caller over C to show and for the program `bench`: document 01's, but for 3, 4, 16 and 22 to 24, whose words docs/LESSONS.md has.
 #![tactic(auto)]
+
 ghost use Rattle.std.specs.Prelude.{◌≡◌, ◌++◌, ◌≤◌, length, drop};
 ghost use Rattle.refusals.specs.Refusals.{◌leaving◌};
 ghost use Rattle.refusal_words.specs.Words.{said_words, putting, words_outcome};
@@ -27,7 +28,7 @@ fn copy(text: &[u8], out: &mut [u8])
 // A text of at most 255 bytes into lent memory, or 11.
 fn put(text: &[u8], out: &mut [u8]) -> WordsAnswer
     requires { length text.now ≤ 255 }
-    ensures { said_words result leaving (λ x. x.now) out.exit ≡ putting text.now out.old }
+    ensures { said_words result leaving out.new ≡ putting text.now out.old }
 {
     let n = text.len();
     if out.len() < n {
@@ -40,7 +41,7 @@ fn put(text: &[u8], out: &mut [u8]) -> WordsAnswer
 // Of 0, which has none, to 7. Four functions, since one match over all numbers is dear to check.
 fn words_to_7(number: u32, out: &mut [u8]) -> WordsAnswer
     requires { number ≤ 7 }
-    ensures { said_words result leaving (λ x. x.now) out.exit ≡ words_outcome number out.old }
+    ensures { said_words result leaving out.new ≡ words_outcome number out.old }
 {
     match number {
         1 => put(b"cell parameter above 127", out),
@@ -66,7 +67,7 @@ fn words_to_7(number: u32, out: &mut [u8]) -> WordsAnswer
 // Of 8 to 14.
 fn words_to_14(number: u32, out: &mut [u8]) -> WordsAnswer
     requires { (8 ≤ number) × (number ≤ 14) }
-    ensures { said_words result leaving (λ x. x.now) out.exit ≡ words_outcome number out.old }
+    ensures { said_words result leaving out.new ≡ words_outcome number out.old }
 {
     match number {
         8 => put(
@@ -94,7 +95,7 @@ fn words_to_14(number: u32, out: &mut [u8]) -> WordsAnswer
 // Of 15 to 21.
 fn words_to_21(number: u32, out: &mut [u8]) -> WordsAnswer
     requires { (15 ≤ number) × (number ≤ 21) }
-    ensures { said_words result leaving (λ x. x.now) out.exit ≡ words_outcome number out.old }
+    ensures { said_words result leaving out.new ≡ words_outcome number out.old }
 {
     match number {
         15 => put(b"seat open already", out),
@@ -110,7 +111,7 @@ fn words_to_21(number: u32, out: &mut [u8]) -> WordsAnswer
 // Of 22 to 24, which are document 02's; and none above them.
 fn words_from_22(number: u32, out: &mut [u8]) -> WordsAnswer
     requires { 22 ≤ number }
-    ensures { said_words result leaving (λ x. x.now) out.exit ≡ words_outcome number out.old }
+    ensures { said_words result leaving out.new ≡ words_outcome number out.old }
 {
     match number {
         22 => put(b"level not 1 to 2047", out),
@@ -122,7 +123,7 @@ fn words_from_22(number: u32, out: &mut [u8]) -> WordsAnswer
 
 // The words of a refusal number; none for a number that is no refusal's. Refusal: 11.
 pub fn words(number: u32, out: &mut [u8]) -> WordsAnswer
-    ensures { said_words result leaving (λ x. x.now) out.exit ≡ words_outcome number out.old }
+    ensures { said_words result leaving out.new ≡ words_outcome number out.old }
 {
     if number < 8 {
         return words_to_7(number, out);

@@ -1,5 +1,6 @@
 // Document 01, "Refusal numbers": what the calls of several chapters share. The table of numbers is in specs/Refusals.antt.
 #![tactic(auto)]
+
 ghost use Rattle.std.specs.Prelude.{◌≡◌};
 ghost use Rattle.refusals.specs.Inside.{or_refused};
 

@@ -32,6 +32,7 @@ or_cases false q t f g = g t
 
 or_l : (p q : Bool) → T p → T (p || q)
 or_l true q t = tt
+or_l false q t = elim t [ ]
 
 or_r : (p q : Bool) → T q → T (p || q)
 or_r true q t = tt

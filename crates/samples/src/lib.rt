@@ -1,5 +1,6 @@
 // Received samples (document 02, C-18): whether a float is one, and whether the first floats of a row all are.
 #![tactic(auto)]
+
 ghost use Rattle.std.specs.Prelude.{◌≡◌, ◌≤◌, length};
 ghost use Rattle.samples.specs.Samples.{is_sample, bad_samples};
 

@@ -2,6 +2,7 @@
 // say of each timeslot (document 02, C-16).
 // `rules` has the refusals 16 to 18, `valid` the conditions of a seat.
 #![tactic(auto)]
+
 pub mod rules;
 pub mod valid;
 

@@ -1,5 +1,6 @@
 // Chips for the signal card (document 02, C-12): any chip of any user as two f32 numbers at a chosen level, and a whole midamble into a lent row of them.
 #![tactic(auto)]
+
 ghost use Rattle.std.specs.Prelude.{◌≡◌, ◌++◌, [], ◌∷◌, ℕ, ◌*◌, ◌<◌, ◌≤◌, length, take, drop, get_or};
 ghost use Rattle.conditions.specs.Conditions.{bad_level};
 ghost use Rattle.refusals.specs.Refusals.{◌leaving◌, first_of, answer};
@@ -100,7 +101,7 @@ pub fn pairs(
     level: u32,
     out: &mut [f32],
 ) -> PairsAnswer
-    ensures { said_pairs result leaving (λ x. x.now) out.exit ≡ pairs_outcome cell burst count user level out.old }
+    ensures { said_pairs result leaving out.new ≡ pairs_outcome cell burst count user level out.old }
 {
     let length = codes::code_of(burst).length;
     let short = out.len() < 2 * length as usize;

@@ -1,6 +1,7 @@
 // What a seat's bookings say of one timeslot (document 02, C-16), kept beside them: which leaves are covered, which direction, how many, and whether they are type 2.
 // A booking is tested against it, and joins it, by the mask of its code.
 #![tactic(auto)]
+
 ghost use Rattle.std.specs.Prelude.{◌≡◌, false, not, ◌<◌, eqb};
 ghost use Rattle.std.specs.Int.Bits.{bit_and};
 ghost use Rattle.conditions.specs.Conditions.{bad_code};

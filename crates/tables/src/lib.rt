@@ -1,5 +1,6 @@
 // Document 01, "Refusal numbers": the refusals that depend on numbers alone, read row by row: the number of the first that holds, or 0.
 #![tactic(auto)]
+
 ghost use Rattle.std.specs.Prelude.{◌≡◌};
 ghost use Rattle.refusals.specs.Refusals.{first_of};
 ghost use Rattle.tables.specs.Tables.{user_refusals, parts_refusals, pich_refusals, form_refusals, settings_refusals};

@@ -1,5 +1,6 @@
 // Document 01, "Parts of a timeslot (clause 5.2.2)": where the seven parts lie, and what lies at a chip.
 #![tactic(auto)]
+
 mod lengths;
 mod places;
 

@@ -1,0 +1,60 @@
+-- `classbook::walk::check` meets its contract: the seats passed meet their conditions, what was summed and what is left to sum make the common room, and the seat is the one that is named.
+-- Assumes nothing.
+use mathlib.Core.Path.{◌≡◌, refl, sym, ap, ◌∙◌}
+use mathlib.Core.Bool.{Bool, ◌&&◌}
+use Prim.Native.Nat.{ℕ, ◌+◌, ◌*◌, ◌-◌, ◌≤◌}
+use native.Mathlib.Nat.{zero-add}
+use native.Mathlib.Omega.{arith}
+use borrow.Author.Rules.{rules}
+use lib.Dec.{leb}
+use lib.ListN.{length, take, drop, get_or-eq_default}
+use lib.Seq.{take_all}
+use Rattle.laws.specs.Lists.{every, total}
+use Rattle.laws.proofs.Rows.{turn, ended, turn_sum, ended_sum, get_d_any}
+use Rattle.seats.specs.Seats.{closed, seat_ok}
+use Rattle.classbook.specs.declared.Book.{Book}
+use Rattle.classbook.specs.Book.{beyond, common, book_ok, seat_of}
+use Rattle.classbook.proofs.Sized.{sixteen}
+use Rattle.classbook.proofs.walk.check.Goals as goal
+
+as-defined : (b : Book) (ok : Bool) (used : ℕ) → ok ≡ every seat_ok b.seats → used ≡ total beyond b.seats → ((ok && leb used 80) ≡ book_ok b) × (used ≡ common b)
+unfolding book_ok common
+as-defined b ok used eo eu = (rw (eo, eu), eu)
+
+pub loop-i-init : goal.loop-i-init
+loop-i-init c =
+    let h : length c.args.b.seats ≡ 16 = sixteen c.args.b c.well_formed.0.1.1.0.1.0.1 in
+    let whole = take_all 16 c.args.b.seats (omega arith) in
+    (ap (every seat_ok) whole, omega arith, zero-add _ ∙ ap (total beyond) whole)
+
+pub loop-i-preserved : goal.loop-i-preserved
+unfolding every
+loop-i-preserved c =
+    let l = c.loop-i in
+    let seats = c.args.b.seats in
+    let h : length seats ≡ 16 = sixteen c.args.b c.well_formed.0.1.1.0.1.0.1 in
+    let e = c.passed-t.ensures in (
+      ap (λ (ok : Bool). ok && every seat_ok (drop (l.i + 1) (take 16 seats))) e.0
+          ∙ turn seats 16 l.i (every seat_ok) (λ x _. seat_ok x) (λ x l. refl) _ l.t.ok _ _ (omega arith) (omega arith) l.invariant.0 refl,
+      omega (arith, e.1, l.invariant.1),
+      ap (λ (n : ℕ). n + total beyond (drop (l.i + 1) (take 16 seats))) e.1
+          ∙ turn_sum seats 16 l.i beyond _ l.t.used _ _ (omega arith) (omega arith) l.invariant.2 refl,
+    )
+
+pub returns-then-seat-lt16 : goal.returns-then-seat-lt16
+unfolding every seat_of
+returns-then-seat-lt16 c =
+    let l = c.loop-i in
+    let h : length c.args.b.seats ≡ 16 = sixteen c.args.b c.well_formed.0.1.1.0.1.0.1 in
+    let e = as-defined c.args.b l.t.ok l.t.used (ended c.args.b.seats 16 l.i (every seat_ok) refl l.t.ok _ (omega arith) l.invariant.0)
+    (ended_sum c.args.b.seats 16 l.i beyond l.t.used _ (omega arith) l.invariant.2) in
+    (e.0, e.1, get_d_any c.args.b.seats c.args.seat _ closed (omega arith))
+
+pub returns : goal.returns
+unfolding every seat_of
+returns c =
+    let l = c.loop-i in
+    let h : length c.args.b.seats ≡ 16 = sixteen c.args.b c.well_formed.0.1.1.0.1.0.1 in
+    let e = as-defined c.args.b l.t.ok l.t.used (ended c.args.b.seats 16 l.i (every seat_ok) refl l.t.ok _ (omega arith) l.invariant.0)
+    (ended_sum c.args.b.seats 16 l.i beyond l.t.used _ (omega arith) l.invariant.2) in
+    (e.0, e.1, c.closed_seat-none.ensures ∙ sym (get_or-eq_default c.args.b.seats closed {n = c.args.seat} (omega arith)))

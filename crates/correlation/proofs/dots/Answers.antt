@@ -1,0 +1,116 @@
+-- `correlation::dots` meets its contract: before each turn every column has the float of its own whole-number sum; then these are added. Assumes nothing.
+use borrow.Author.Rules.{rules}
+use mathlib.Core.Path.{◌≡◌, refl, ap, ◌∙◌}
+use mathlib.Core.List.{List}
+use Prim.Native.Nat.{ℕ, ◌+◌, ◌-◌, ◌*◌, ◌/◌, ◌%◌, ◌^◌, ◌≤◌, ◌<◌}
+use native.Mathlib.Omega.{arith}
+use borrow.Author.Count.{below_none}
+use lib.ListN.{length, get_or, set, replicate, length-set, get_or-replicate}
+use lib.Ieee.{Float, nan, binary32, add, mul, of_int, of_bits}
+use Rattle.sums.specs.Totals.{total}
+use Rattle.sums.proofs.Totals.{column}
+use Rattle.samples.specs.Samples.{sample_of}
+use Rattle.correlation.specs.Inside.{Samples, Signs, Wholes, term, dot_of, sums_of}
+use Rattle.correlation.proofs.Columns.{Some, some_more, none_yet, column_turn, columns_whole, columns_total}
+use Rattle.correlation.proofs.dots.Goals as goal
+
+-- ---- 32 columns of the floats of z: with so many rows, and with one more in those before l
+abbrev Columns : List Float → List Float → ℕ → ℕ → List Float → Type 0
+Columns z b by t columns = (length columns ≡ 32) × ((k : ℕ) → k < 32 → get_or columns k nan ≡ of_int binary32 (column 32 (term z b by) k t))
+
+abbrev More : List Float → List Float → ℕ → ℕ → ℕ → List Float → Type 0
+More z b by t l columns = (length columns ≡ 32) × Some columns (λ k. column 32 (term z b by) k t) (λ k. column 32 (term z b by) k (t + 1)) l
+
+at_first : (z b : List Float) (by : ℕ) → Columns z b by 0 (replicate 32 (of_bits binary32 0))
+at_first z b by = (refl, none_yet (replicate 32 (of_bits binary32 0)) (term z b by) (λ k h. get_or-replicate 32 k (of_bits binary32 0) nan h))
+
+begun : (z b : List Float) (by t : ℕ) (columns : List Float) → Columns z b by t columns → More z b by t 0 columns
+begun z b by t columns held = (held.0, (below_none _, (λ k low high. held.1 k high)))
+
+more : (z b : List Float) (by count : ℕ) → Samples z count → Signs b (by + count) → (m l t : ℕ) (columns : List Float) → m ≡ 32 * t → m + 32 ≤ count → count ≤ 512 → l < 32 → More z b by t l columns
+    → More z b by t (l + 1) (set columns l (add binary32 (get_or columns l nan) (mul binary32 (get_or z (m + l) nan) (get_or b (by + m + l) nan))))
+more z b by count samples signs m l t columns e room few low held =
+    (length-set columns l _ ∙ held.0, some_more columns _ _ l _ held.0 low (column_turn z b by count samples signs m l t _ e room few low (held.1.1 l (omega arith) low)) held.1)
+
+done : (z b : List Float) (by t u l : ℕ) (columns : List Float) → l ≡ 32 → t + 1 ≡ u → More z b by t l columns → Columns z b by u columns
+done z b by t u l columns all rows held = (held.0, (λ k h. held.1.0 k (omega arith) ∙ ap (λ (n : ℕ). of_int binary32 (column 32 (term z b by) k n)) rows))
+
+-- ---- when no float is left
+module _ (e : tie.After-loop invariant-loop2 decreases-loop2 invariant-loop decreases-loop) where
+  abbrev head : tie.At-loop invariant-loop2 decreases-loop2 invariant-loop decreases-loop
+  head = e.before
+
+  abbrev start : tie.Start invariant-loop2 decreases-loop2 invariant-loop decreases-loop
+  start = head.before.before.before.before
+
+  abbrev rows : ℕ
+  rows = head.loop.m / 32
+
+  all-rows : 32 * rows ≡ start.args.count
+  all-rows = let p = start.pre in let inv = head.loop.inv in let end = e.loop-test.left in omega arith
+
+  real-whole : Wholes head.loop.real 32 (2 ^ 18)
+  real-whole = columns_whole start.args.x.now start.args.b.now start.args.by start.args.count start.pre.1.1.0 start.pre.1.1.2 rows head.loop.real all-rows start.pre.0.0 head.loop.inv.2.1
+
+  imaginary-whole : Wholes head.loop.imaginary 32 (2 ^ 18)
+  imaginary-whole = columns_whole start.args.y.now start.args.b.now start.args.by start.args.count start.pre.1.1.1 start.pre.1.1.2 rows head.loop.imaginary all-rows start.pre.0.0 head.loop.inv.3.1
+
+  real_total : total (λ (l : ℕ). sample_of (get_or head.loop.real (l - 1) nan)) 32 ≡ dot_of start.args.x.now start.args.b.now start.args.by start.args.count
+  real_total = columns_total start.args.x.now start.args.b.now start.args.by start.args.count start.pre.1.1.0 start.pre.1.1.2 rows head.loop.real all-rows start.pre.0.0 head.loop.inv.2.1
+
+  imaginary_total : total (λ (l : ℕ). sample_of (get_or head.loop.imaginary (l - 1) nan)) 32 ≡ dot_of start.args.y.now start.args.b.now start.args.by start.args.count
+  imaginary_total = columns_total start.args.y.now start.args.b.now start.args.by start.args.count start.pre.1.1.1 start.pre.1.1.2 rows head.loop.imaginary all-rows start.pre.0.0 head.loop.inv.3.1
+
+shared-slice-read-imaginary :
+    tie.Need-shared-slice-read-imaginary invariant-loop2 decreases-loop2 invariant-loop decreases-loop
+shared-slice-read-imaginary c = search rules
+
+pub loop-m-init : goal.loop-m-init
+loop-m-init c =
+    let a = c.args in
+    (omega arith, refl, at_first a.x.now a.b.now a.by, at_first a.y.now a.b.now a.by)
+
+pub loop-l-init : goal.loop-l-init
+loop-l-init c =
+    let a = c.args in
+    let t = c.loop-m.m / 32 in
+    let inv = c.loop-m.invariant in
+    (omega arith, begun a.x.now a.b.now a.by t c.loop-m.real inv.2, begun a.y.now a.b.now a.by t c.loop-m.imaginary inv.3)
+
+pub loop-l-preserved : goal.loop-l-preserved
+loop-l-preserved c =
+    let a = c.args in
+    let p = c.requires in
+    let inv = c.loop-l.invariant in
+    let room : c.loop-m.m + 32 ≤ a.count = omega arith in
+    let rows : c.loop-m.m ≡ 32 * (c.loop-m.m / 32) = omega arith in
+    let low : c.loop-l.l < 32 = omega arith in (
+      omega arith,
+      more a.x.now a.b.now a.by a.count p.samples.0 p.samples.2 c.loop-m.m c.loop-l.l (c.loop-m.m / 32) c.loop-l.real rows room p.count_bound.0 low inv.1,
+      more a.y.now a.b.now a.by a.count p.samples.1 p.samples.2 c.loop-m.m c.loop-l.l (c.loop-m.m / 32) c.loop-l.imaginary rows room p.count_bound.0 low inv.2,
+    )
+
+pub loop-m-preserved : goal.loop-m-preserved
+loop-m-preserved c =
+    let a = c.args in
+    let inv = c.loop-l.invariant in
+    let all : c.loop-l.l ≡ 32 = omega arith in
+    let rows : c.loop-m.m / 32 + 1 ≡ (c.loop-m.m + 32) / 32 = omega arith in (
+      omega arith,
+      omega arith,
+      done a.x.now a.b.now a.by (c.loop-m.m / 32) ((c.loop-m.m + 32) / 32) c.loop-l.l c.loop-l.real all rows inv.1,
+      done a.y.now a.b.now a.by (c.loop-m.m / 32) ((c.loop-m.m + 32) / 32) c.loop-l.l c.loop-l.imaginary all rows inv.2,
+    )
+
+pub joined-re-requires : goal.joined-re-requires
+joined-re-requires c = (search rules, real-whole c.before)
+
+pub joined-im-requires : goal.joined-im-requires
+joined-im-requires c = (search rules, imaginary-whole c.before)
+
+pub returns : goal.returns
+unfolding sums_of
+returns c =
+    let p = c.joined-re.ensures ∙ ap (of_int binary32) (real_total e) in
+    let q = c.joined-im.ensures ∙ ap (of_int binary32) (imaginary_total e) in
+    λ j. record { re = p j; im = q j }

@@ -1,0 +1,23 @@
+-- `correlation::halve` meets its contract: the columns before k have their other half, the others are as they were. Assumes nothing.
+use borrow.Author.Rules.{rules}
+use borrow.Author.Count.{below_none}
+use mathlib.Core.Path.{◌≡◌, refl, ◌∙◌}
+use Prim.Native.Nat.{ℕ, ◌+◌, ◌-◌, ◌*◌, ◌≤◌, ◌<◌}
+use native.Mathlib.Omega.{arith}
+use lib.ListN.{length, get_or, length-set}
+use lib.Seq.{get_or-set_other}
+use lib.IntN.{◌+ℤ◌}
+use lib.Ieee.{Float, nan, binary32, of_int}
+use Rattle.samples.specs.Samples.{sample_of}
+use Rattle.correlation.proofs.Turning.{store}
+use Rattle.correlation.proofs.Halves.{sum_of_two}
+use Rattle.correlation.proofs.halve.Given as goal
+
+abbrev pub invariant-loop-k : goal.invariant-loop-k
+invariant-loop-k l =
+    (l.k ≤ l.half) × (length l.columns ≡ length l.initial.columns)
+    × ((j : ℕ) → j < l.k → get_or l.columns j nan ≡ of_int binary32 (sample_of (get_or l.initial.columns j nan) +ℤ sample_of (get_or l.initial.columns (j + l.half) nan)))
+    × ((j : ℕ) → l.k ≤ j → get_or l.columns j nan ≡ get_or l.initial.columns j nan)
+
+abbrev pub decreases-loop-k : goal.decreases-loop-k
+decreases-loop-k l = l.half - l.k

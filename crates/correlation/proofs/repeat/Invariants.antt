@@ -1,0 +1,17 @@
+-- `correlation::repeat` meets its contract: a place behind the period has what stands one period before it. Assumes nothing.
+use borrow.Author.Rules.{rules}
+use mathlib.Core.Path.{◌≡◌, refl, sym, ap, ◌∙◌}
+use Prim.Native.Nat.{ℕ, ◌-◌, ◌%◌, ◌≤◌, ◌<◌}
+use native.Mathlib.Nat.{mod-eq_of_lt, mod-eq-sub-mod}
+use native.Mathlib.Omega.{arith}
+use lib.ListN.{length, get_or, length-set}
+use lib.Ieee.{Float, nan}
+use Rattle.correlation.proofs.Turning.{store}
+use Rattle.correlation.proofs.repeat.Given as goal
+
+abbrev pub invariant-loop-i : goal.invariant-loop-i
+invariant-loop-i l =
+    (l.period ≤ l.i) × (l.i ≤ l.count) × (length l.out ≡ length l.initial.out) × ((m : ℕ) → m < l.i → get_or l.out m nan ≡ get_or l.initial.out (m % l.period) nan)
+
+abbrev pub decreases-loop-i : goal.decreases-loop-i
+decreases-loop-i l = l.count - l.i

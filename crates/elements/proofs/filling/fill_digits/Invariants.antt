@@ -1,0 +1,18 @@
+-- `elements::filling::fill_digits` meets its contract: after each stretch the first places hold the elements of the digits that are done, and the rest is as it was.
+-- Assumes nothing.
+use mathlib.Core.Path.{◌≡◌, refl, ap, ◌∙◌}
+use Prim.Native.Nat.{ℕ, ◌+◌, ◌-◌, ◌*◌, ◌%◌, ◌<◌, ◌≤◌}
+use native.Mathlib.Nat.{le_antisymm, mod-lt}
+use native.Mathlib.Omega.{arith}
+use lib.ListN.{length}
+use borrow.Author.Rules.{rules}
+use Rattle.laws.proofs.Runs.{run_none, run_fits, rest_length}
+use Rattle.elements.specs.Inside.{elements_after}
+use Rattle.elements.proofs.Steps.{stretch_turn, some_done, first_again}
+use Rattle.elements.proofs.filling.fill_digits.Given as goal
+
+abbrev pub invariant-loop-done : goal.invariant-loop-done
+invariant-loop-done l = (l.done ≤ l.digits) × (l.at < l.all) × (l.done < l.digits → l.at ≡ (l.g + l.done) % l.all) × (length l.out ≡ length l.initial.out) × (l.out ≡ elements_after l.row (4 * l.g) (4 * l.done) l.initial.out)
+
+abbrev pub decreases-loop-done : goal.decreases-loop-done
+decreases-loop-done l = l.digits - l.done

@@ -1,0 +1,36 @@
+-- `elements::filling::fill_stretch` meets its contract: after k turns the first 4k places hold the elements of k digits, and the rest is as it was.
+-- Assumes nothing.
+use mathlib.Core.Path.{◌≡◌, refl, ap, ◌∙◌}
+use Prim.Native.Nat.{ℕ, ◌-◌, ◌*◌, ◌≤◌}
+use native.Mathlib.Nat.{le_antisymm}
+use native.Mathlib.Omega.{arith}
+use lib.ListN.{length}
+use borrow.Author.Rules.{rules}
+use Rattle.laws.proofs.Runs.{run_none, run_fits, rest_length}
+use Rattle.elements.specs.Inside.{elements_after}
+use Rattle.elements.proofs.Digits.{digit_low}
+use Rattle.elements.proofs.Steps.{digit_turn}
+use Rattle.elements.proofs.filling.fill_stretch.Goals as goal
+
+pub loop-k-init : goal.loop-k-init
+loop-k-init c = (omega arith, refl, run_none _ _)
+
+pub put_four-requires : goal.put_four-requires
+put_four-requires c =
+    let l = c.loop-k in
+    (c.requires.powers_value.0, digit_low _ _ _ c.digit_at-digit.ensures, omega (arith, rest_length (4 * l.k) l.out))
+
+pub loop-k-preserved : goal.loop-k-preserved
+loop-k-preserved c =
+    let l = c.loop-k in
+    let a = c.args in
+    let q = c.requires in
+    let written = digit_turn _ q.powers_value.1 a.g l.k _ a.out.now l.out _ (omega arith) c.digit_at-digit.ensures l.invariant.2 c.put_four.ensures in
+    (omega arith, ap length written ∙ run_fits _ _ a.out.now (omega arith), written)
+
+pub returns : goal.returns
+returns c =
+    let l = c.loop-k in
+    let a = c.args in
+    let past : l.k ≡ a.digits = le_antisymm l.invariant.0 c.loop-k-test.false in
+    l.invariant.2 ∙ ap (λ (n : ℕ). elements_after a.row.now (4 * a.g) (4 * n) a.out.now) past

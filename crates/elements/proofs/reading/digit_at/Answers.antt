@@ -1,0 +1,9 @@
+-- `elements::reading::digit_at` meets its contract: one byte, one half of it.
+-- Assumes nothing.
+use mathlib.Core.Path.{sym}
+use borrow.Author.Rules.{rules}
+use Rattle.elements.proofs.Digits.{digits_at}
+use Rattle.elements.proofs.reading.digit_at.Goals as goal
+
+pub returns : goal.returns
+returns c = sym (digits_at _ _ c.requires)

@@ -1,0 +1,18 @@
+-- `lesson_words::words::look_up` meets its contract: the entries that were passed have other names.
+-- Assumes nothing.
+use mathlib.Core.Path.{◌≡◌, refl, sym, ◌∙◌}
+use Prim.Native.Nat.{◌+◌, ◌-◌, ◌≤◌}
+use native.Mathlib.Omega.{arith}
+use lib.ListN.{length, drop}
+use Rattle.lesson_words.specs.Inside.{number_in, kinds_in}
+use Rattle.lesson_words.proofs.Table.{number_found, number_on, kinds_found, kinds_on, number_starts, kinds_starts, number_none, kinds_none}
+use borrow.Author.Rules.{rules}
+use Rattle.lesson_words.proofs.words.look_up.Given as goal
+
+abbrev pub invariant-loop-number : goal.invariant-loop-number
+invariant-loop-number l =
+    (l.number ≤ l.count) × (l.at ≤ length l.table) × (l.number + number_in (l.count - l.number) l.name (drop l.at l.table) ≡ number_in l.count l.name l.table)
+    × (kinds_in (l.count - l.number) l.name (drop l.at l.table) ≡ kinds_in l.count l.name l.table)
+
+abbrev pub decreases-loop-number : goal.decreases-loop-number
+decreases-loop-number l = l.count - l.number

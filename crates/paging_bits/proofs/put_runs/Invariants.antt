@@ -1,0 +1,20 @@
+-- `paging_bits::put_runs` meets its contract: one run a turn, from the front.
+-- Assumes nothing.
+use mathlib.Core.Path.{◌≡◌, refl, ap, ◌∙◌}
+use Prim.Native.Nat.{ℕ, ◌+◌, ◌-◌, ◌*◌, ◌≤◌}
+use native.Mathlib.Nat.{le_antisymm}
+use native.Mathlib.Omega.{arith}
+use lib.ListN.{length}
+use borrow.Author.Rules.{rules}
+use Rattle.paging_bits.specs.Bits.{runs_of}
+use Rattle.paging_bits.specs.Inside.{put_at}
+use Rattle.paging_bits.proofs.Runs.{run_room, run_next, runs_none, runs_turn}
+use Rattle.paging_bits.proofs.put_runs.Given as goal
+
+-- `paging_bits::put_runs` meets its contract: one run a turn, from the front.
+-- Assumes nothing.
+abbrev pub invariant-loop-q : goal.invariant-loop-q
+invariant-loop-q l = (l.q ≤ l.number) × (l.p ≡ l.from + l.q * l.length) × (length l.out ≡ length l.initial.out) × (l.out ≡ put_at l.from (runs_of l.length l.settings l.q) l.initial.out)
+
+abbrev pub decreases-loop-q : goal.decreases-loop-q
+decreases-loop-q l = l.number - l.q

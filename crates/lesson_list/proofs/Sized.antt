@@ -15,11 +15,9 @@ use denote.Struct.Declared.{shape}
 use Rattle.seats.specs.declared.Seat.{Seat}
 use Rattle.seats.specs.Seats.{closed}
 use Rattle.seats.specs.contracts.Seat as S
-use Rattle.plans.proofs.Sized.{forty}
 use Rattle.classbook.specs.declared.Book.{Book}
 use Rattle.classbook.specs.Book.{seat_of}
 use Rattle.classbook.specs.contracts.Book as B
-use Rattle.classbook.proofs.Sized.{sixteen}
 use Rattle.classbook.proofs.Valid.{Sized}
 
 -- a seat as a book holds it

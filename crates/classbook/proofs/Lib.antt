@@ -1,4 +1,3 @@
-pub mod Sized
 pub mod Answers
 pub mod Tables
 pub mod Passed

@@ -71,14 +71,14 @@ module _ (cell burst count user level : ℕ) (known : first_of (user_refusals ce
   given = good cell burst count user known
 
   first : 1 ≤ user
-  first = user_low (code_of burst) count user given.user-good
+  first = user_low (code_of burst) count user given.user_good
 
   nothing_refused : first_of (hear_refusals cell burst count row) ≡ 0
   unfolding hear_refusals first_of
   nothing_refused =
       let long = long_enough level high cell burst user row rest front in
       let fine = good_samples level high cell burst user row rest front in
-      rw (given.cell-good, given.type-good, given.count-good, long, fine) refl
+      rw (given.cell_good, given.type_good, given.count_good, long, fine) refl
 
   copy : (i : ℕ) → 1 ≤ i → i ≤ (code_of burst).length → sample_at row i ≡ pair_of level (chip_of cell burst user i)
   copy = reads_chips level high cell burst user row rest front
@@ -95,8 +95,8 @@ module _ (cell burst count user level : ℕ) (known : first_of (user_refusals ce
   is_heard less =
       let loud = mul-pos low (some_chips burst) in
       heard_best (permitted (code_of burst) count) (strength cell burst row) refl (2 * (code_of burst).base) user
-      (user_high burst count user given.user-good)
-      given.user-good
+      (user_high burst count user given.user_good)
+      given.user_good
       (omega (arith, own, mul-pos loud loud))
       (λ l high may other. less l may other)
 

@@ -1,5 +1,6 @@
 // What benchmarks/run measures: the sums of sixteen users, without the rest of the call. Nothing here is part of the library.
 #![tactic(auto)]
+
 ghost use Rattle.std.specs.Prelude.{◌≤◌, length};
 ghost use Rattle.correlation.specs.Inside.{Samples, Signs, reach};
 

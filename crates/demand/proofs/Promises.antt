@@ -16,7 +16,7 @@ use prog.Routine.{Routine}
 use types.Logic.{Logic}
 use contract.Lifetimes.{Lfts}
 use contract.Monad.{Fun, fact, fact_i, fact_use}
-use denote.Ref.{Bor}
+use denote.MutBor.{MutBor}
 use Rattle.refusals.specs.Refusals.{Answer, refused, answered, ◌leaving◌, answer}
 use Rattle.bookings.specs.declared.Booking.{Booking}
 use Rattle.classbook.specs.declared.Book.{Book}
@@ -90,7 +90,7 @@ unfolding reply next
 listed_told b seat lent r kept h = record { replies = ap listed (sym h); leaves = refl }
 
 module _ {M : Type 1} {𝓤 : Ura M} (𝓛 : Logic 𝓤) (mem : Memory → SProp 𝓤)
-    (run : Routine → Fun 𝓤) (κs : Lfts 1) (b : Book) (seat : ℕ) (out : Bor (List Booking)) where
+    (run : Routine → Fun 𝓤) (κs : Lfts 1) (b : Book) (seat : ℕ) (out : MutBor (List Booking)) where
   pub list_promised : (P : SProp 𝓤) (r : ListReply) (s : _)
       → ent 𝓤 P ((list.clauses 𝓛 mem run κs (b, (seat, (out, tt)))).ensures tt r s)
       → let got = listed (said_list r leaving s.1.1.0.now) in
@@ -125,7 +125,7 @@ unfolding reply next in_records
 list_seat_promised b seat lent r κs s enough wide p =
     let kept = take r.count r.row ++ drop r.count lent in
     let few = le-ltb (length lent) 40 enough in
-    let selected = into.selected-given b seat (length lent) r (ltb (length lent) 40) p refl few in
+    let selected = into.selected_given b seat (length lent) r (ltb (length lent) 40) p refl few in
     let written = into.listed b seat lent r _ kept (reply_of r) selected wide refl refl refl in
     let answers = ap (λ (a : Answer ℕ). listed (a leaving kept)) (said_reply r) in
     record {

@@ -1,5 +1,6 @@
 // What benchmarks/run measures: bookings in the class book, called over plain numbers. Nothing here is part of the library.
 #![tactic(auto)]
+
 ghost use Rattle.std.specs.Prelude.{◌≤◌};
 
 use bookings::Booking;

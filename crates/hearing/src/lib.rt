@@ -1,5 +1,6 @@
 // Who is on the air (document 02, C-18): of received samples, the permitted user whose midamble they hold most of, with the two sums; or nobody.
 #![tactic(auto)]
+
 ghost use Rattle.std.specs.Prelude.{◌≡◌, ◌≤◌, ◌+◌, ◌*◌, ltb, length, nat_abs};
 ghost use Rattle.std.specs.Float.{binary32};
 ghost use Rattle.std.specs.Float.Ieee.{of_int};

@@ -1,6 +1,7 @@
 // The calls of a lesson that change the class book (docs/LESSONS.md), made with what a line's words stand for.
 // Whether the words are those of the call is asked before, by `lesson_words::numbers::read`.
 #![tactic(auto)]
+
 ghost use Rattle.std.specs.Prelude.{◌≡◌};
 ghost use Rattle.lesson_book.specs.Asked.{open_asked, request_of, book_asked, cancel_asked, close_asked, asked_by};
 

@@ -1,6 +1,7 @@
 // docs/LESSONS.md, `list SEAT`: forty records are lent to document 01's list, and what it replied
 // and left in them is handed on by value.
 #![tactic(auto)]
+
 ghost use Rattle.std.specs.Prelude.{◌≡◌, replicate};
 ghost use Rattle.seats.specs.Seats.{blank};
 ghost use Rattle.classbook.specs.Calls.{list_answer};

@@ -12,7 +12,7 @@ use types.Logic.{Logic}
 use contract.Conj.{top}
 use contract.Lifetimes.{Lfts}
 use contract.Monad.{Fun, fact, fact_i, fact_use}
-use denote.Ref.{Bor}
+use denote.MutBor.{MutBor}
 use Rattle.refusals.specs.Refusals.{Outcome, ◌leaving◌}
 use Rattle.bookings.specs.declared.Booking.{Booking}
 use Rattle.classbook.specs.declared.Book.{Book}
@@ -35,7 +35,7 @@ once o r r' m m' p q =
     let same : (said_list r leaving m) ≡ (said_list r' leaving m') = p ∙ sym q in
     (said_list_once r r' (cc), cc)
 
-module _ {M : Type 1} {𝓤 : Ura M} (𝓛 : Logic 𝓤) (mem : Memory → SProp 𝓤) (run : Routine → Fun 𝓤) (κs : Lfts 1) (b : Book) (seat : ℕ) (out : Bor (List Booking)) where
+module _ {M : Type 1} {𝓤 : Ura M} (𝓛 : Logic 𝓤) (mem : Memory → SProp 𝓤) (run : Routine → Fun 𝓤) (κs : Lfts 1) (b : Book) (seat : ℕ) (out : MutBor (List Booking)) where
   -- what is asked of any book, any number and any records holds, whatever is had
   pub list_asks_nothing : (P : SProp 𝓤) → ent 𝓤 P ((list.clauses 𝓛 mem run κs (b, (seat, (out, tt)))).requires tt)
   list_asks_nothing P = top 𝓤 P

@@ -1,21 +1,12 @@
--- Records are written one by one from the front, and the rest of what was lent stays: laws on lists. Cited by the proof of `fill` and by proofs/Handed.antt.
+-- Records are written one by one from the front, and the rest of what was lent stays: laws on lists. Cited by the proof of `fill`.
 -- Assumes nothing.
 use mathlib.Core.Path.{◌≡◌, sym, ◌∙◌}
-use mathlib.Core.List.{List, ◌++◌, map}
+use mathlib.Core.List.{List, ◌++◌}
 use Prim.Native.Nat.{ℕ, suc, ◌+◌, ◌≤◌, ◌<◌}
 use native.Mathlib.Numerals.{add-one}
 use native.Mathlib.Omega.{arith}
-use lib.ListN.{length, take, drop, set, get_or, length-map, length-append, length-take, length-drop}
+use lib.ListN.{length, take, drop, set, get_or, length-append, length-take, length-drop}
 use lib.Seq.{set_at, drop-cons, take-suc, append_snoc, length-take-le}
-use Rattle.classbook.specs.declared.ListAnswer.{ListAnswer}
-use Rattle.classbook.specs.contracts.ListAnswer as L
-
-unmapped : {A B : Type 0} (f : A → B) (l : List A) (n : ℕ) → length (map f l) ≡ n → length l ≡ n
-unmapped f l n h = sym (length-map l f) ∙ h
-
--- a row has forty records: its type says so, of the values that stand for it
-pub row_length : (l : ListAnswer) → length ((L.the_type).to l).1.1.0 ≡ 40 → length l.row ≡ 40
-row_length l h = unmapped _ l.row 40 h
 
 -- the first i are written, and the rest are as they were
 abbrev pub so_far : {A : Type 0} → List A → List A → ℕ → List A

@@ -1,5 +1,6 @@
 // Document 01, "The class book": a list goes into a lent row of booking records.
 #![tactic(auto)]
+
 ghost use Rattle.std.specs.Prelude.{◌≡◌, ◌++◌, ◌<◌, ◌≤◌, ltb, length, take, drop, get_or};
 ghost use Rattle.seats.specs.Seats.{blank};
 ghost use Rattle.refusals.specs.Refusals.{◌leaving◌};

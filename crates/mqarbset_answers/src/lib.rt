@@ -1,5 +1,6 @@
 // The answers of documents 01 and 02 as the structs of the C interface: each case of a call's enum turned into the struct.
 #![tactic(auto)]
+
 pub mod air;
 pub mod at_a_glance;
 pub mod by_block;

@@ -1,5 +1,4 @@
 pub mod Copied
-pub mod Sized
 pub mod Flags
 pub mod Handed
 pub mod Kept

@@ -1,5 +1,6 @@
 // The class book as a C caller holds it, in bytes: read, written, and handed back with an answer. Whatever bytes a caller hands in are a value of their type.
 #![tactic(auto)]
+
 mod reading;
 mod writing;
 

@@ -1,5 +1,6 @@
 // A list over C: a seat's bookings as records of eight bytes, into lent memory.
 #![tactic(auto)]
+
 ghost use Rattle.std.specs.Prelude.{◌≡◌, ◌++◌, ◌+◌, ◌*◌, ◌≤◌, length, take, drop};
 ghost use Rattle.std.proofs.Math.Seq.{paste};
 ghost use Rattle.mqarbset_answers.specs.Answers.{outcome_as_c};

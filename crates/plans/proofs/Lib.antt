@@ -1,4 +1,3 @@
-pub mod Sized
 pub mod Named
 pub mod Carried
 pub mod Summed

@@ -1,5 +1,6 @@
 // Document 02, C-16, "Free codes at a glance": what a seat's bookings say of a timeslot, as it is kept beside them.
 #![tactic(auto)]
+
 ghost use Rattle.std.specs.Prelude.{◌≡◌};
 ghost use Rattle.refusals.specs.Refusals.{answered};
 ghost use Rattle.summaries.specs.Summaries.{glance_of, summary_answer, said_summary};

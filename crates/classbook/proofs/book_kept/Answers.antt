@@ -6,7 +6,6 @@ use Rattle.seats.specs.declared.Seat.{Seat}
 use Rattle.classbook.specs.Book.{with_seat}
 use Rattle.classbook.specs.Calls.{with_book}
 use Rattle.classbook.specs.Inside.{booking_answer}
-use Rattle.classbook.proofs.Sized.{sixteen}
 use Rattle.classbook.proofs.Answers.{refused_by, made_by}
 use Rattle.classbook.proofs.Tables.{booking_table}
 use Rattle.classbook.proofs.Made.{found_good, booking_ready, booked_made}
@@ -17,7 +16,7 @@ pub booking_refusal-n-requires : goal.booking_refusal-n-requires
 booking_refusal-n-requires c =
     let e = c.check-found.ensures in
     let f = formed c.args.x c.requires in
-    (f.timeslot_good, f.code_good, found_good c.args.b c.args.seat c.check-found.result.seat e.2 c.check-found.result.ok (sixteen c.args.b c.well_formed.0.1.1.0.1.0.1) e.0)
+    (f.timeslot_good, f.code_good, found_good c.args.b c.args.seat c.check-found.result.seat e.2 c.check-found.result.ok c.well_formed.0.1.1.0.1.0.1 e.0)
 
 pub returns-then-n-ne0 : goal.returns-then-n-ne0
 unfolding booking_answer
@@ -31,7 +30,7 @@ with_booking-more-requires c =
     let e = c.check-found.ensures in
     let number = booking_table c.args.b c.args.seat _ _ _ e.0 e.2 c.args.x _ e.1 c.booking_refusal-n.ensures in
     let ready = booking_ready c.args.b c.args.seat _ e.2 c.args.x
-    (sixteen c.args.b c.well_formed.0.1.1.0.1.0.1) (sym number ∙ c.if-n-ne0.false) in
+    c.well_formed.0.1.1.0.1.0.1 (sym number ∙ c.if-n-ne0.false) in
     let f = formed c.args.x c.requires in
     (ready.0, ready.1, f.timeslot_good, f.code_good)
 

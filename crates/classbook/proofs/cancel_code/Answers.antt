@@ -6,7 +6,6 @@ use Rattle.seats.specs.declared.Seat.{Seat}
 use Rattle.classbook.specs.Book.{with_seat}
 use Rattle.classbook.specs.Conditions.{none_named}
 use Rattle.classbook.specs.Calls.{with_book, cancel_answer}
-use Rattle.classbook.proofs.Sized.{sixteen}
 use Rattle.classbook.proofs.Answers.{refused_by, made_by}
 use Rattle.classbook.proofs.Tables.{cancel_table}
 use Rattle.classbook.proofs.Made.{one_named, cancel_ready, cancelled_made}
@@ -31,7 +30,7 @@ without_at-less-requires c =
     = one_named c.check-t.result.seat a.timeslot a.factor a.index _ _ c.held_by-held.ensures.0 c.place_named-p.ensures.1 in
     let number = cancel_table a.b a.seat _ _ _ e.0 e.2 a.timeslot a.factor a.index _ found c.cancel_refusal-n.ensures in
     cancel_ready a.b a.seat _ e.2 a.timeslot a.factor a.index _ _ c.held_by-held.ensures.0
-    (sixteen a.b c.well_formed.0.1.1.0.1.0.1) (sym number ∙ c.if-n-ne0.false) found
+    c.well_formed.0.1.1.0.1.0.1 (sym number ∙ c.if-n-ne0.false) found
 
 pub returns : goal.returns
 unfolding cancel_answer
@@ -46,4 +45,4 @@ returns c =
     (made_by _ _ _ _ _ number z
     (ap (λ (s : Seat). with_seat a.b a.seat s) c.without_at-less.ensures
     ∙ cancelled_made a.b a.seat _ e.2 a.timeslot a.factor a.index _ _ c.held_by-held.ensures.0
-    (sixteen a.b c.well_formed.0.1.1.0.1.0.1) (sym number ∙ z) c.place_named-p.ensures.0))
+    c.well_formed.0.1.1.0.1.0.1 (sym number ∙ z) c.place_named-p.ensures.0))

@@ -7,7 +7,6 @@ use lib.Dec.{eqb, ltb}
 use borrow.Author.Tests.{ltb-true}
 use Rattle.laws.proofs.Bools.{and_true}
 use Rattle.classbook.specs.Book.{with_seat}
-use Rattle.classbook.proofs.Sized.{sixteen}
 use Rattle.classbook.proofs.Answers.{stays, exchanged}
 use borrow.Author.Rules.{rules}
 use Rattle.classbook.proofs.exchanged.Goals as goal
@@ -23,4 +22,4 @@ returns-then-n-seat c = exchanged _ _ _ _ c.if-n-seat.true
 
 pub returns-else-n-seat : goal.returns-else-n-seat
 unfolding with_seat
-returns-else-n-seat c = stays _ _ _ _ (sixteen c.args.b c.well_formed.1.0.1.1.0.1.0.1) c.if-n-seat.false
+returns-else-n-seat c = stays _ _ _ _ c.well_formed.1.0.1.1.0.1.0.1 c.if-n-seat.false

@@ -2,25 +2,20 @@
 use borrow.Author.Rules.{rules}
 use mathlib.Core.Path.{◌≡◌, refl, ap, ◌∙◌}
 use mathlib.Core.List.{List}
-use Prim.Native.Nat.{ℕ, ◌+◌, ◌-◌, ◌*◌, ◌/◌, ◌%◌, ◌^◌, ◌≤◌, ◌<◌}
+use Prim.Native.Nat.{ℕ, ◌+◌, ◌-◌, ◌*◌, ◌/◌, ◌^◌, ◌≤◌, ◌<◌}
 use native.Mathlib.Omega.{arith}
 use borrow.Author.Count.{below_none}
-use lib.ListN.{length, get_or, set, replicate, length-set, get_or-replicate}
+use lib.ListN.{get_or, set, replicate, length-set, get_or-replicate}
 use lib.Ieee.{Float, nan, binary32, add, mul, of_int, of_bits}
 use Rattle.sums.specs.Totals.{total}
 use Rattle.sums.proofs.Totals.{column}
 use Rattle.samples.specs.Samples.{sample_of}
 use Rattle.correlation.specs.Inside.{Samples, Signs, Wholes, term, dot_of, sums_of}
-use Rattle.correlation.proofs.Columns.{Some, some_more, none_yet, column_turn, columns_whole, columns_total}
+use Rattle.correlation.proofs.Columns.{some_more, none_yet, column_turn, columns_whole, columns_total}
+use Rattle.correlation.proofs.dots.Invariants.{Columns, More}
 use Rattle.correlation.proofs.dots.Goals as goal
 
--- ---- 32 columns of the floats of z: with so many rows, and with one more in those before l
-abbrev Columns : List Float → List Float → ℕ → ℕ → List Float → Type 0
-Columns z b by t columns = (length columns ≡ 32) × ((k : ℕ) → k < 32 → get_or columns k nan ≡ of_int binary32 (column 32 (term z b by) k t))
-
-abbrev More : List Float → List Float → ℕ → ℕ → ℕ → List Float → Type 0
-More z b by t l columns = (length columns ≡ 32) × Some columns (λ k. column 32 (term z b by) k t) (λ k. column 32 (term z b by) k (t + 1)) l
-
+-- ---- the columns of the invariants: at first, within a row and behind it
 at_first : (z b : List Float) (by : ℕ) → Columns z b by 0 (replicate 32 (of_bits binary32 0))
 at_first z b by = (refl, none_yet (replicate 32 (of_bits binary32 0)) (term z b by) (λ k h. get_or-replicate 32 k (of_bits binary32 0) nan h))
 
@@ -35,35 +30,13 @@ more z b by count samples signs m l t columns e room few low held =
 done : (z b : List Float) (by t u l : ℕ) (columns : List Float) → l ≡ 32 → t + 1 ≡ u → More z b by t l columns → Columns z b by u columns
 done z b by t u l columns all rows held = (held.0, (λ k h. held.1.0 k (omega arith) ∙ ap (λ (n : ℕ). of_int binary32 (column 32 (term z b by) k n)) rows))
 
--- ---- when no float is left
-module _ (e : tie.After-loop invariant-loop2 decreases-loop2 invariant-loop decreases-loop) where
-  abbrev head : tie.At-loop invariant-loop2 decreases-loop2 invariant-loop decreases-loop
-  head = e.before
+-- ---- when no float is left: the columns of z are whole numbers, and their total is the sum
+module _ (z b : List Float) (by count : ℕ) (samples : Samples z count) (signs : Signs b (by + count)) (few : count ≤ 512) (m : ℕ) (columns : List Float) (all : 32 * (m / 32) ≡ count) (held : Columns z b by (m / 32) columns) where
+  all_whole : Wholes columns 32 (2 ^ 18)
+  all_whole = columns_whole z b by count samples signs (m / 32) columns all few held.1
 
-  abbrev start : tie.Start invariant-loop2 decreases-loop2 invariant-loop decreases-loop
-  start = head.before.before.before.before
-
-  abbrev rows : ℕ
-  rows = head.loop.m / 32
-
-  all-rows : 32 * rows ≡ start.args.count
-  all-rows = let p = start.pre in let inv = head.loop.inv in let end = e.loop-test.left in omega arith
-
-  real-whole : Wholes head.loop.real 32 (2 ^ 18)
-  real-whole = columns_whole start.args.x.now start.args.b.now start.args.by start.args.count start.pre.1.1.0 start.pre.1.1.2 rows head.loop.real all-rows start.pre.0.0 head.loop.inv.2.1
-
-  imaginary-whole : Wholes head.loop.imaginary 32 (2 ^ 18)
-  imaginary-whole = columns_whole start.args.y.now start.args.b.now start.args.by start.args.count start.pre.1.1.1 start.pre.1.1.2 rows head.loop.imaginary all-rows start.pre.0.0 head.loop.inv.3.1
-
-  real_total : total (λ (l : ℕ). sample_of (get_or head.loop.real (l - 1) nan)) 32 ≡ dot_of start.args.x.now start.args.b.now start.args.by start.args.count
-  real_total = columns_total start.args.x.now start.args.b.now start.args.by start.args.count start.pre.1.1.0 start.pre.1.1.2 rows head.loop.real all-rows start.pre.0.0 head.loop.inv.2.1
-
-  imaginary_total : total (λ (l : ℕ). sample_of (get_or head.loop.imaginary (l - 1) nan)) 32 ≡ dot_of start.args.y.now start.args.b.now start.args.by start.args.count
-  imaginary_total = columns_total start.args.y.now start.args.b.now start.args.by start.args.count start.pre.1.1.1 start.pre.1.1.2 rows head.loop.imaginary all-rows start.pre.0.0 head.loop.inv.3.1
-
-shared-slice-read-imaginary :
-    tie.Need-shared-slice-read-imaginary invariant-loop2 decreases-loop2 invariant-loop decreases-loop
-shared-slice-read-imaginary c = search rules
+  all_total : total (λ (l : ℕ). sample_of (get_or columns (l - 1) nan)) 32 ≡ dot_of z b by count
+  all_total = columns_total z b by count samples signs (m / 32) columns all few held.1
 
 pub loop-m-init : goal.loop-m-init
 loop-m-init c =
@@ -103,14 +76,30 @@ loop-m-preserved c =
     )
 
 pub joined-re-requires : goal.joined-re-requires
-joined-re-requires c = (search rules, real-whole c.before)
+joined-re-requires c =
+    let a = c.args in
+    let p = c.requires in
+    let inv = c.loop-m.invariant in
+    let all : 32 * (c.loop-m.m / 32) ≡ a.count = omega arith in
+    (search rules, all_whole a.x.now a.b.now a.by a.count p.samples.0 p.samples.2 p.count_bound.0 c.loop-m.m c.loop-m.real all inv.2)
 
 pub joined-im-requires : goal.joined-im-requires
-joined-im-requires c = (search rules, imaginary-whole c.before)
+joined-im-requires c =
+    let a = c.args in
+    let p = c.requires in
+    let inv = c.loop-m.invariant in
+    let all : 32 * (c.loop-m.m / 32) ≡ a.count = omega arith in
+    (search rules, all_whole a.y.now a.b.now a.by a.count p.samples.1 p.samples.2 p.count_bound.0 c.loop-m.m c.loop-m.imaginary all inv.3)
 
 pub returns : goal.returns
 unfolding sums_of
 returns c =
-    let p = c.joined-re.ensures ∙ ap (of_int binary32) (real_total e) in
-    let q = c.joined-im.ensures ∙ ap (of_int binary32) (imaginary_total e) in
+    let a = c.args in
+    let s = c.requires in
+    let inv = c.loop-m.invariant in
+    let all : 32 * (c.loop-m.m / 32) ≡ a.count = omega arith in
+    let p =
+    c.joined-re.ensures ∙ ap (of_int binary32) (all_total a.x.now a.b.now a.by a.count s.samples.0 s.samples.2 s.count_bound.0 c.loop-m.m c.loop-m.real all inv.2) in
+    let q =
+    c.joined-im.ensures ∙ ap (of_int binary32) (all_total a.y.now a.b.now a.by a.count s.samples.1 s.samples.2 s.count_bound.0 c.loop-m.m c.loop-m.imaginary all inv.3) in
     λ j. record { re = p j; im = q j }

@@ -39,8 +39,8 @@ returns c =
     let code = c.code_of-code in
     let few = period-is c.args.burst code.result code.ensures in
     let long = ap (λ (x : Code). x.length) code.ensures in
-    signs_held c.args.cell c.args.burst code.result.period (reach c.args.burst) c.fill_elements.new.1.1.1.1.0 _
-    c.signs_of.new.1.1.0 c.repeat.new.1.1.0 (sym few.0)
+    signs_held c.args.cell c.args.burst code.result.period (reach c.args.burst) c.fill_elements.new.out _
+    c.signs_of.new.out c.repeat.new.out (sym few.0)
     c.fill_elements.ensures
     c.signs_of.ensures
     (λ m h. c.repeat.ensures m (omega (arith, h, few.0, long)))

@@ -1,10 +1,9 @@
 -- `correlation::halve` meets its contract: the columns before k have their other half, the others are as they were. Assumes nothing.
-use borrow.Author.Rules.{rules}
 use borrow.Author.Count.{below_none}
 use mathlib.Core.Path.{◌≡◌, refl, ◌∙◌}
-use Prim.Native.Nat.{ℕ, ◌+◌, ◌-◌, ◌*◌, ◌≤◌, ◌<◌}
+use Prim.Native.Nat.{ℕ, ◌+◌, ◌*◌}
 use native.Mathlib.Omega.{arith}
-use lib.ListN.{length, get_or, length-set}
+use lib.ListN.{get_or, length-set}
 use lib.Seq.{get_or-set_other}
 use lib.IntN.{◌+ℤ◌}
 use lib.Ieee.{Float, nan, binary32, of_int}

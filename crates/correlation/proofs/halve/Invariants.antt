@@ -1,16 +1,10 @@
 -- `correlation::halve` meets its contract: the columns before k have their other half, the others are as they were. Assumes nothing.
-use borrow.Author.Rules.{rules}
-use borrow.Author.Count.{below_none}
-use mathlib.Core.Path.{◌≡◌, refl, ◌∙◌}
-use Prim.Native.Nat.{ℕ, ◌+◌, ◌-◌, ◌*◌, ◌≤◌, ◌<◌}
-use native.Mathlib.Omega.{arith}
-use lib.ListN.{length, get_or, length-set}
-use lib.Seq.{get_or-set_other}
+use mathlib.Core.Path.{◌≡◌}
+use Prim.Native.Nat.{ℕ, ◌+◌, ◌-◌, ◌≤◌, ◌<◌}
+use lib.ListN.{length, get_or}
 use lib.IntN.{◌+ℤ◌}
-use lib.Ieee.{Float, nan, binary32, of_int}
+use lib.Ieee.{nan, binary32, of_int}
 use Rattle.samples.specs.Samples.{sample_of}
-use Rattle.correlation.proofs.Turning.{store}
-use Rattle.correlation.proofs.Halves.{sum_of_two}
 use Rattle.correlation.proofs.halve.Given as goal
 
 abbrev pub invariant-loop-k : goal.invariant-loop-k

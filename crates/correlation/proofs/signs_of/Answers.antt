@@ -2,10 +2,10 @@
 use borrow.Author.Rules.{rules}
 use borrow.Author.Count.{below_none}
 use mathlib.Core.Path.{◌≡◌, refl, ◌∙◌}
-use Prim.Native.Nat.{ℕ, ◌+◌, ◌-◌, ◌%◌, ◌≤◌, ◌<◌}
+use Prim.Native.Nat.{ℕ, ◌+◌, ◌%◌}
 use native.Mathlib.Omega.{arith}
-use lib.ListN.{length, get_or, length-set}
-use lib.Ieee.{Float, nan, of_bits, of_int}
+use lib.ListN.{get_or, length-set}
+use lib.Ieee.{Float, of_bits, of_int}
 use Rattle.signal_card.proofs.Parts.{level_fits}
 use Rattle.correlation.specs.Inside.{sign_from}
 use Rattle.correlation.proofs.Turning.{store}

@@ -1,14 +1,9 @@
 -- `correlation::signs_of` meets its contract: each place has the sign that its remainder and its power make. Assumes nothing.
-use borrow.Author.Rules.{rules}
-use borrow.Author.Count.{below_none}
-use mathlib.Core.Path.{◌≡◌, refl, ◌∙◌}
+use mathlib.Core.Path.{◌≡◌}
 use Prim.Native.Nat.{ℕ, ◌+◌, ◌-◌, ◌%◌, ◌≤◌, ◌<◌}
-use native.Mathlib.Omega.{arith}
-use lib.ListN.{length, get_or, length-set}
-use lib.Ieee.{Float, nan, of_bits, of_int}
-use Rattle.signal_card.proofs.Parts.{level_fits}
+use lib.ListN.{length, get_or}
+use lib.Ieee.{nan}
 use Rattle.correlation.specs.Inside.{sign_from}
-use Rattle.correlation.proofs.Turning.{store}
 use Rattle.correlation.proofs.signs_of.Given as goal
 
 abbrev pub invariant-loop-i : goal.invariant-loop-i

@@ -1,12 +1,8 @@
 -- `correlation::turn` meets its contract: four samples a turn of the loop, turned back once, twice, three times and not at all. Assumes nothing.
-use borrow.Author.Rules.{rules}
-use borrow.Author.Count.{below_none}
-use mathlib.Core.Path.{◌≡◌, refl, subst}
-use Prim.Native.Nat.{ℕ, ◌+◌, ◌-◌, ◌%◌, ◌≤◌}
-use native.Mathlib.Omega.{arith}
-use lib.ListN.{length, length-set}
+use mathlib.Core.Path.{◌≡◌}
+use Prim.Native.Nat.{◌-◌, ◌%◌, ◌≤◌}
+use lib.ListN.{length}
 use Rattle.correlation.specs.Inside.{Turned}
-use Rattle.correlation.proofs.Turning.{four_places, four_lengths, real_turn, imaginary_turn}
 use Rattle.correlation.proofs.turn.Given as goal
 
 abbrev pub invariant-loop-i : goal.invariant-loop-i

@@ -11,7 +11,6 @@ use Rattle.slots.specs.Slots.{slot_of}
 use Rattle.seats.specs.Seats.{blank}
 use Rattle.plans.proofs.Carried.{carried_out}
 use Rattle.plans.proofs.Plans.{taken_out_at, gone_low, left_told, left_good}
-use Rattle.plans.proofs.Sized.{forty}
 use borrow.Author.Rules.{rules}
 use Rattle.plans.proofs.without_at.Goals as goal
 
@@ -36,7 +35,7 @@ bounds-kept-t c =
 pub returns : goal.returns
 returns c =
     let s = c.args.s in
-    let wide = forty s c.well_formed.0.1.1.1.1.1.1.1.1.1.0.1.0.1 in
+    let wide = c.well_formed.0.1.1.1.1.1.1.1.1.1.0.1.0.1 in
     let row = moved s.row c.args.p c.blank_booking-none.result c.take_out-next.result c.blank_booking-none.ensures c.take_out-next.ensures in
     carried_out s c.held_by-n.result c.args.p c.blank_booking-none.result c.take_out-next.result c.slot_of-fewer.result
     c.held_by-n.ensures.0 c.blank_booking-none.ensures c.take_out-next.ensures

@@ -14,7 +14,6 @@ use Rattle.laws.proofs.Rows.{turn, ended, turn_sum, ended_sum, get_d_any}
 use Rattle.seats.specs.Seats.{closed, seat_ok}
 use Rattle.classbook.specs.declared.Book.{Book}
 use Rattle.classbook.specs.Book.{beyond, common, book_ok, seat_of}
-use Rattle.classbook.proofs.Sized.{sixteen}
 use Rattle.classbook.proofs.walk.check.Goals as goal
 
 as-defined : (b : Book) (ok : Bool) (used : ℕ) → ok ≡ every seat_ok b.seats → used ≡ total beyond b.seats → ((ok && leb used 80) ≡ book_ok b) × (used ≡ common b)
@@ -23,7 +22,7 @@ as-defined b ok used eo eu = (rw (eo, eu), eu)
 
 pub loop-i-init : goal.loop-i-init
 loop-i-init c =
-    let h : length c.args.b.seats ≡ 16 = sixteen c.args.b c.well_formed.0.1.1.0.1.0.1 in
+    let h : length c.args.b.seats ≡ 16 = c.well_formed.0.1.1.0.1.0.1 in
     let whole = take_all 16 c.args.b.seats (omega arith) in
     (ap (every seat_ok) whole, omega arith, zero-add _ ∙ ap (total beyond) whole)
 
@@ -32,7 +31,7 @@ unfolding every
 loop-i-preserved c =
     let l = c.loop-i in
     let seats = c.args.b.seats in
-    let h : length seats ≡ 16 = sixteen c.args.b c.well_formed.0.1.1.0.1.0.1 in
+    let h : length seats ≡ 16 = c.well_formed.0.1.1.0.1.0.1 in
     let e = c.passed-t.ensures in (
       ap (λ (ok : Bool). ok && every seat_ok (drop (l.i + 1) (take 16 seats))) e.0
           ∙ turn seats 16 l.i (every seat_ok) (λ x _. seat_ok x) (λ x l. refl) _ l.t.ok _ _ (omega arith) (omega arith) l.invariant.0 refl,
@@ -45,7 +44,7 @@ pub returns-then-seat-lt16 : goal.returns-then-seat-lt16
 unfolding every seat_of
 returns-then-seat-lt16 c =
     let l = c.loop-i in
-    let h : length c.args.b.seats ≡ 16 = sixteen c.args.b c.well_formed.0.1.1.0.1.0.1 in
+    let h : length c.args.b.seats ≡ 16 = c.well_formed.0.1.1.0.1.0.1 in
     let e = as-defined c.args.b l.t.ok l.t.used (ended c.args.b.seats 16 l.i (every seat_ok) refl l.t.ok _ (omega arith) l.invariant.0)
     (ended_sum c.args.b.seats 16 l.i beyond l.t.used _ (omega arith) l.invariant.2) in
     (e.0, e.1, get_d_any c.args.b.seats c.args.seat _ closed (omega arith))
@@ -54,7 +53,7 @@ pub returns : goal.returns
 unfolding every seat_of
 returns c =
     let l = c.loop-i in
-    let h : length c.args.b.seats ≡ 16 = sixteen c.args.b c.well_formed.0.1.1.0.1.0.1 in
+    let h : length c.args.b.seats ≡ 16 = c.well_formed.0.1.1.0.1.0.1 in
     let e = as-defined c.args.b l.t.ok l.t.used (ended c.args.b.seats 16 l.i (every seat_ok) refl l.t.ok _ (omega arith) l.invariant.0)
     (ended_sum c.args.b.seats 16 l.i beyond l.t.used _ (omega arith) l.invariant.2) in
     (e.0, e.1, c.closed_seat-none.ensures ∙ sym (get_or-eq_default c.args.b.seats closed {n = c.args.seat} (omega arith)))

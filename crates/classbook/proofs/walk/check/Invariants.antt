@@ -14,7 +14,6 @@ use Rattle.laws.proofs.Rows.{turn, ended, turn_sum, ended_sum, get_d_any}
 use Rattle.seats.specs.Seats.{closed, seat_ok}
 use Rattle.classbook.specs.declared.Book.{Book}
 use Rattle.classbook.specs.Book.{beyond, common, book_ok, seat_of}
-use Rattle.classbook.proofs.Sized.{sixteen}
 use Rattle.classbook.proofs.walk.check.Given as goal
 
 abbrev pub invariant-loop-i : goal.invariant-loop-i

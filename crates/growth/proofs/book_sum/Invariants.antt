@@ -1,0 +1,10 @@
+-- `growth::book_sum` is safe and ends.
+-- Assumes nothing.
+use Rattle.std.proofs.Common.{◌-◌, ◌≤◌, rules}
+use Rattle.growth.proofs.book_sum.Given as goal
+
+abbrev pub invariant-loop-n : goal.invariant-loop-n
+invariant-loop-n l = l.n ≤ 16
+
+abbrev pub decreases-loop-n : goal.decreases-loop-n
+decreases-loop-n l = 16 - l.n

@@ -1,0 +1,12 @@
+-- `mqarbset::book::mq_close_value` meets its promise: the call of the library, asked of the book that was read.
+-- Assumes nothing.
+use borrow.Author.Rules.{rules}
+use Rattle.classbook.specs.declared.Book.{Book}
+use Rattle.classbook.specs.Calls.{close_answer}
+use Rattle.mqarbset_book.proofs.Handed.{passed_on}
+use Rattle.mqarbset.proofs.book.mq_close_value.Goals as goal
+
+pub returns : goal.returns
+returns c =
+    let a = c.args in
+    passed_on (λ (b : Book). close_answer b a.seat) _ _ _ _ c.read_book-c.ensures c.close_seat-a.ensures c.handed_back.ensures

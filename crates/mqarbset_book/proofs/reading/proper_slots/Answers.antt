@@ -1,0 +1,27 @@
+-- `mqarbset_book::reading::proper_slots` meets its promise: what was tested and what is left to test make the whole test.
+-- Assumes nothing.
+use mathlib.Core.Path.{◌≡◌, refl}
+use mathlib.Core.Bool.{◌&&◌}
+use Prim.Native.Nat.{◌-◌, ◌≤◌}
+use native.Mathlib.Omega.{arith}
+use borrow.Author.Rules.{rules}
+use lib.ListN.{drop}
+use Rattle.laws.specs.Lists.{every}
+use Rattle.laws.proofs.Rows.{left_turn, left_ended}
+use Rattle.mqarbset_book.specs.Mirror.{neither, proper_slot}
+use Rattle.mqarbset_book.proofs.reading.proper_slots.Goals as goal
+
+pub loop-i-init : goal.loop-i-init
+loop-i-init c = (omega arith, refl)
+
+pub loop-i-preserved : goal.loop-i-preserved
+unfolding every neither
+loop-i-preserved c =
+    let l = c.loop-i in
+    (omega arith, left_turn c.args.from l.i (every proper_slot) (λ x _. proper_slot x) (λ x l. refl) _ l.ok _ _ (omega (arith, c.well_formed.0.1.0.1)) l.invariant.1 refl)
+
+pub returns : goal.returns
+unfolding every neither
+returns c =
+    let l = c.loop-i in
+    left_ended c.args.from l.i (every proper_slot) refl l.ok _ (omega (arith, c.well_formed.0.1.0.1)) l.invariant.1

@@ -1,0 +1,23 @@
+-- `mqarbset_book::reading::read_book` meets its promise: what is read and what is still to come make the seats, and so for the test of their bytes.
+-- Assumes nothing.
+use mathlib.Core.Path.{◌≡◌, refl, sym, ap, ◌∙◌}
+use mathlib.Core.Bool.{Bool, true, false, ◌&&◌}
+use mathlib.Core.List.{List, map}
+use Prim.Native.Nat.{◌-◌}
+use native.Mathlib.Omega.{arith}
+use borrow.Author.Rules.{rules}
+use lib.ListN.{length, drop}
+use Rattle.laws.specs.Lists.{every}
+use Rattle.laws.proofs.Rows.{left_turn, left_ended}
+use Rattle.seats.specs.declared.Seat.{Seat}
+use Rattle.classbook.specs.declared.Book.{Book}
+use Rattle.mqarbset_book.specs.declared.MqBook.{MqBook}
+use Rattle.mqarbset_book.specs.Mirror.{read_seat, proper_seat, proper, broken_book, read_book}
+use Rattle.mqarbset_book.proofs.Copied.{Copying, copy_turn, copied}
+use Rattle.mqarbset_book.proofs.reading.read_book.Given as goal
+
+abbrev pub invariant-loop-i : goal.invariant-loop-i
+invariant-loop-i l = Copying read_seat 16 l.b.seats l.out l.i × ((l.ok && every proper_seat (drop l.i l.b.seats)) ≡ every proper_seat l.b.seats)
+
+abbrev pub decreases-loop-i : goal.decreases-loop-i
+decreases-loop-i l = 16 - l.i

@@ -1,7 +1,7 @@
 #!/usr/bin/env bash
 # Installs the C interface, the Python module and the manual pages, or takes them away again.
 #
-#   rt staticlib mqarbset && ./install.sh                into /usr/local
+#   tools/build_library mqarbset && ./install.sh         into /usr/local
 #   PREFIX=/opt/mqarbset ./install.sh                    into another folder
 #   PREFIX=/usr DESTDIR=stage ./install.sh               for /usr, staged below the folder stage
 #   ./install.sh --uninstall                             takes away what is there (with the same PREFIX and DESTDIR)
@@ -25,7 +25,7 @@ abi=$(constant MQ_ABI)
 
 # The archive's objects are position independent; -z text makes the linker refuse any that are not.
 shared() {
-    [ -e "$archive" ] || fail "the library is not built: run 'rt staticlib mqarbset' first (it writes $archive)"
+    [ -e "$archive" ] || fail "the library is not built: run 'tools/build_library mqarbset' first (it writes $archive)"
     command -v cc >/dev/null || fail "no command cc, which makes the shared library: install a C compiler (Debian: apt-get install gcc)"
     cc -shared -o "$1" -Wl,--whole-archive "$archive" -Wl,--no-whole-archive -Wl,-z,text "-Wl,-soname,libmqarbset.so.$abi"
 }

@@ -15,8 +15,7 @@ use mqarbset_answers::at_a_glance::MqSummary;
 use mqarbset_book::{MqBook, MqBookAnswer, MqBooking, MqSeat, MqSlot};
 
 // An empty book: no seat is open.
-#[unsafe(no_mangle)]
-pub extern "C" fn mq_empty_book() -> MqBook
+pub fn mq_empty_book() -> MqBook
     ensures { result ≡ write_book empty_book }
 {
     let none = MqBooking {
@@ -54,8 +53,7 @@ pub extern "C" fn mq_empty_book() -> MqBook
 }
 
 // Opens a seat with a cell parameter, a synchronisation case and its k, and a long and a short count. Refusals: 1, 3, 9, 12, 13, 15.
-#[unsafe(no_mangle)]
-pub extern "C" fn mq_open_value(
+pub fn mq_open_value(
     b: MqBook,
     seat: u32,
     cell: u32,
@@ -72,8 +70,7 @@ pub extern "C" fn mq_open_value(
 }
 
 // Books a code in a timeslot for a seat; direction 0 is up, 1 is down. Refusals: 2, 4 to 8, 12 to 14, 16 to 20; 6 also for a direction that is neither.
-#[unsafe(no_mangle)]
-pub extern "C" fn mq_book_value(
+pub fn mq_book_value(
     b: MqBook,
     seat: u32,
     timeslot: u32,
@@ -105,14 +102,7 @@ pub extern "C" fn mq_book_value(
 }
 
 // Cancels the booking of a seat that is named by timeslot and code. Refusals: 5, 6, 12, 13, 14, 21.
-#[unsafe(no_mangle)]
-pub extern "C" fn mq_cancel_value(
-    b: MqBook,
-    seat: u32,
-    timeslot: u32,
-    factor: u32,
-    index: u32,
-) -> MqBookAnswer
+pub fn mq_cancel_value(b: MqBook, seat: u32, timeslot: u32, factor: u32, index: u32) -> MqBookAnswer
     ensures { result ≡ handed_back b (cancel_answer (read_book b) seat timeslot factor index) }
 {
     let c = mqarbset_book::read_book(b);
@@ -121,8 +111,7 @@ pub extern "C" fn mq_cancel_value(
 }
 
 // Closes a seat: its bookings and its settings go. Refusals: 12, 13, 14.
-#[unsafe(no_mangle)]
-pub extern "C" fn mq_close_value(b: MqBook, seat: u32) -> MqBookAnswer
+pub fn mq_close_value(b: MqBook, seat: u32) -> MqBookAnswer
     ensures { result ≡ handed_back b (close_answer (read_book b) seat) }
 {
     let c = mqarbset_book::read_book(b);
@@ -132,8 +121,7 @@ pub extern "C" fn mq_close_value(b: MqBook, seat: u32) -> MqBookAnswer
 
 // Lists a seat's bookings in records of eight bytes: timeslot, direction, type, factor, index, user, TFCI and TPC bits. The value is how many were written; further
 // bytes stay as they are. Refusals: 11 (below 320 bytes, which are 40 records), 12, 13, 14.
-#[unsafe(no_mangle)]
-pub extern "C" fn mq_list_bytes(b: MqBook, seat: u32, out: &mut [u8]) -> MqAnswer
+pub fn mq_list_bytes(b: MqBook, seat: u32, out: &mut [u8]) -> MqAnswer
     ensures { (result, out.new) ≡ outcome_as_c (records_outcome (read_book b) seat out.old) }
 {
     mqarbset_list::list(b, seat, out)
@@ -141,8 +129,7 @@ pub extern "C" fn mq_list_bytes(b: MqBook, seat: u32, out: &mut [u8]) -> MqAnswe
 
 // Which codes of a timeslot a seat has free: the leaves that its bookings cover, leaf l being bit 2^l, their direction (0 up, 1 down, 2 none) and their number.
 // Refusals: 5, 12, 13, 14.
-#[unsafe(no_mangle)]
-pub extern "C" fn mq_summary_value(b: MqBook, seat: u32, timeslot: u32) -> MqSummary
+pub fn mq_summary_value(b: MqBook, seat: u32, timeslot: u32) -> MqSummary
     ensures { result ≡ summary_as_c (summary_answer (read_book b) seat timeslot) }
 {
     let c = mqarbset_book::read_book(b);

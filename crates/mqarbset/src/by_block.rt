@@ -6,8 +6,7 @@ ghost use Rattle.mqarbset_answers.specs.Blocks.{held_as_place, start_as_c, block
 use mqarbset_answers::by_block::{MqBlock, MqBlockPlace, MqBlockStart};
 
 // The place before the first chip of a user's midamble. Refusals: 1, 2, 3, 4.
-#[unsafe(no_mangle)]
-pub extern "C" fn mq_block_start(cell: u32, burst: u32, count: u32, user: u32) -> MqBlockStart
+pub fn mq_block_start(cell: u32, burst: u32, count: u32, user: u32) -> MqBlockStart
     ensures { result ≡ start_as_c (start_answer cell burst count user) }
 {
     let r = blocks::start(cell, burst, count, user);
@@ -16,8 +15,7 @@ pub extern "C" fn mq_block_start(cell: u32, burst: u32, count: u32, user: u32) -
 
 // The chips from a place on, as many as block and midamble have left, into the first bytes of `out`; further bytes stay as they are. How many were written, and the
 // place behind them; refused, the place that was handed in. Refusals: 1, 2, 3, 4, 23.
-#[unsafe(no_mangle)]
-pub extern "C" fn mq_block_value(place: MqBlockPlace, out: &mut [u8]) -> MqBlock
+pub fn mq_block_value(place: MqBlockPlace, out: &mut [u8]) -> MqBlock
     ensures { (result, out.new) ≡ block_outcome_as_c (block_outcome (held_as_place place) out.old) }
 {
     let p = mqarbset_answers::by_block::place_from_c(place);

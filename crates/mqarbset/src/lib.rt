@@ -18,14 +18,7 @@ ghost use Rattle.mqarbset_answers.specs.Answers.{answer_as_c, outcome_as_c};
 use mqarbset_answers::MqAnswer;
 
 // Chip `chip` (from 1) of a user's midamble: its power of j, 0 to 3. Refusals: 1, 2, 3, 4, 10.
-#[unsafe(no_mangle)]
-pub extern "C" fn mq_midamble_chip(
-    cell: u32,
-    burst: u32,
-    count: u32,
-    user: u32,
-    chip: u32,
-) -> MqAnswer
+pub fn mq_midamble_chip(cell: u32, burst: u32, count: u32, user: u32, chip: u32) -> MqAnswer
     ensures { result ≡ answer_as_c (chip_answer cell burst count user chip) }
 {
     let r = midambles::midamble_chip(cell, burst, count, user, chip);
@@ -34,14 +27,7 @@ pub extern "C" fn mq_midamble_chip(
 
 // All chips of a user's midamble, into the first 512 (type 2: 256) bytes of `out`; further bytes stay as they are. The value is how many bytes were
 // written. Refusals: 1, 2, 3, 4, 11.
-#[unsafe(no_mangle)]
-pub extern "C" fn mq_midamble(
-    cell: u32,
-    burst: u32,
-    count: u32,
-    user: u32,
-    out: &mut [u8],
-) -> MqAnswer
+pub fn mq_midamble(cell: u32, burst: u32, count: u32, user: u32, out: &mut [u8]) -> MqAnswer
     ensures { (result, out.new) ≡ outcome_as_c (midamble_outcome cell burst count user out.old) }
 {
     let r = midambles::midamble(cell, burst, count, user, out);
@@ -50,8 +36,7 @@ pub extern "C" fn mq_midamble(
 
 // The words of a refusal number as ASCII bytes, into the first places of `out`; further bytes stay as they are. The value is how many bytes were written, 0 for a
 // number that is no refusal's. Refusal: 11.
-#[unsafe(no_mangle)]
-pub extern "C" fn mq_refusal_text(number: u32, out: &mut [u8]) -> MqAnswer
+pub fn mq_refusal_text(number: u32, out: &mut [u8]) -> MqAnswer
     ensures { (result, out.new) ≡ outcome_as_c (words_outcome number out.old) }
 {
     let r = refusal_words::words(number, out);

@@ -8,8 +8,7 @@ use mqarbset_answers::MqAnswer;
 use mqarbset_answers::pages::{MqIndicator, MqOwner};
 
 // Where a paging indicator sits. Refusals: 2, 10.
-#[unsafe(no_mangle)]
-pub extern "C" fn mq_indicator(burst: u32, length: u32, frames: u32, number: u32) -> MqIndicator
+pub fn mq_indicator(burst: u32, length: u32, frames: u32, number: u32) -> MqIndicator
     ensures { result ≡ indicator_as_c (indicator_answer burst length frames number) }
 {
     let r = paging::indicator(burst, length, frames, number);
@@ -17,8 +16,7 @@ pub extern "C" fn mq_indicator(burst: u32, length: u32, frames: u32, number: u32
 }
 
 // Which indicator owns the bit at a place in time order, or that it is reserved. Refusals: 2, 10.
-#[unsafe(no_mangle)]
-pub extern "C" fn mq_owner(burst: u32, length: u32, bit: u32) -> MqOwner
+pub fn mq_owner(burst: u32, length: u32, bit: u32) -> MqOwner
     ensures { result ≡ owner_as_c (owner_answer burst length bit) }
 {
     let r = paging::owner(burst, length, bit);
@@ -26,8 +24,7 @@ pub extern "C" fn mq_owner(burst: u32, length: u32, bit: u32) -> MqOwner
 }
 
 // One frame's settings as bits, into the first 244 (type 2: 276) bytes of `out`; further bytes stay as they are. The value is how many bytes were written. Refusals: 2, 10, 11.
-#[unsafe(no_mangle)]
-pub extern "C" fn mq_page(burst: u32, length: u32, settings: &[u8], out: &mut [u8]) -> MqAnswer
+pub fn mq_page(burst: u32, length: u32, settings: &[u8], out: &mut [u8]) -> MqAnswer
     ensures { (result, out.new) ≡ outcome_as_c (page_outcome burst length settings.now out.old) }
 {
     let r = paging::page(burst, length, settings, out);
@@ -35,8 +32,7 @@ pub extern "C" fn mq_page(burst: u32, length: u32, settings: &[u8], out: &mut [u
 }
 
 // One byte for each indicator q, 0 off, 1 on, 2 torn, into the first places of `out`; further bytes stay as they are. The value is how many were written. Refusals: 2, 10, 11.
-#[unsafe(no_mangle)]
-pub extern "C" fn mq_read_page(burst: u32, length: u32, bits: &[u8], out: &mut [u8]) -> MqAnswer
+pub fn mq_read_page(burst: u32, length: u32, bits: &[u8], out: &mut [u8]) -> MqAnswer
     ensures { (result, out.new) ≡ outcome_as_c (read_page_outcome burst length bits.now out.old) }
 {
     let r = paging::read_page(burst, length, bits, out);

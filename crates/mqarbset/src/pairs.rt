@@ -8,15 +8,7 @@ use mqarbset_answers::MqAnswer;
 use mqarbset_answers::pairs::MqPair;
 
 // Chip `chip` (from 1) of a user's midamble at a level: its real part and its imaginary part. Refusals: 1, 2, 3, 4, 10, 22.
-#[unsafe(no_mangle)]
-pub extern "C" fn mq_pair(
-    cell: u32,
-    burst: u32,
-    count: u32,
-    user: u32,
-    chip: u32,
-    level: u32,
-) -> MqPair
+pub fn mq_pair(cell: u32, burst: u32, count: u32, user: u32, chip: u32, level: u32) -> MqPair
     ensures { result ≡ pair_as_c (pair_answer cell burst count user chip level) }
 {
     let r = signal_card::pair(cell, burst, count, user, chip, level);
@@ -25,8 +17,7 @@ pub extern "C" fn mq_pair(
 
 // All chips of a user's midamble at a level, real then imaginary, into the first 1,024 (type 2: 512) floats of `out`; further floats stay as they are. The value is how
 // many floats were written. Refusals: 1, 2, 3, 4, 11, 22.
-#[unsafe(no_mangle)]
-pub extern "C" fn mq_pairs(
+pub fn mq_pairs(
     cell: u32,
     burst: u32,
     count: u32,

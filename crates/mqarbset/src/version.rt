@@ -3,16 +3,14 @@ ghost use Rattle.std.specs.Prelude.{◌≡◌};
 ghost use Rattle.mqarbset.specs.Version.{version, book_size};
 
 // The version of the library: major times 10000, minor times 100, patch.
-#[unsafe(no_mangle)]
-pub extern "C" fn mq_version() -> u32
+pub fn mq_version() -> u32
     ensures { result ≡ version }
 {
     900
 }
 
 // The bytes of a class book.
-#[unsafe(no_mangle)]
-pub extern "C" fn mq_book_bytes() -> u32
+pub fn mq_book_bytes() -> u32
     ensures { result ≡ book_size }
 {
     6432

@@ -202,9 +202,12 @@ def elsewhere():
         ended('through a link, from another folder', run(command='./linked', given=b'beacon 2 6\n', cwd=FOLDER, env={**os.environ, **environment}), 0, b'beacon 6 14\n', b'')
     copy = FOLDER / 'copy'
     copy.mkdir()
-    for name in ('bench', 'crates', 'crates.txt', 'kit.txt', 'python'):
+    for name in ('bench', 'crates', 'crates.txt', 'kit.txt', 'python', 'tools'):
         source = ROOT / name
-        (shutil.copytree if source.is_dir() else shutil.copy)(source, copy / name)
+        if source.is_dir():
+            shutil.copytree(source, copy / name, ignore=shutil.ignore_patterns('out'))
+        else:
+            shutil.copy(source, copy / name)
     shutil.copytree(ROOT / 'target' / 'bin', copy / 'target' / 'bin')
     future = time.time() + 3600
     for path in (copy / 'crates').rglob('*'):
@@ -216,7 +219,7 @@ def elsewhere():
     ended('nothing is built anew where only dates changed', run(command=str(copy / 'bench'), given=b'beacon 2 6\n', env=path), 0, b'beacon 6 14\n')
     changed = copy / 'crates' / 'bench' / 'src' / 'main.rt'
     changed.write_text(changed.read_text() + '// another\n')
-    ended('it is where the content did', run(command=str(copy / 'bench'), given=b'beacon 2 6\n', env=path), 1, b'', b'rt check bench')
+    ended('it is where the content did', run(command=str(copy / 'bench'), given=b'beacon 2 6\n', env=path), 1, b'', b'rt run')
 
 
 if __name__ == '__main__':

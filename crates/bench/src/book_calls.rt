@@ -4,6 +4,7 @@ use classbook::Book;
 use conditions::Direction;
 use lesson_replies::say;
 use lesson_words::numbers::Values;
+use printing::Outputs;
 
 // The line of the form below.
 fn turn(d: Direction) -> u32 {
@@ -14,7 +15,7 @@ fn turn(d: Direction) -> u32 {
 }
 
 // `SLOT up|down TYPE FACTOR INDEX USER TFCI TPC`
-fn booking(out: &mut [u8; 4096], at: usize, x: Booking) -> usize {
+fn booking(rt: &impl Outputs, out: &mut [u8; 4096], at: usize, x: Booking) -> usize {
     let numbers = [
         x.timeslot as u32,
         x.burst as u32,
@@ -26,6 +27,7 @@ fn booking(out: &mut [u8; 4096], at: usize, x: Booking) -> usize {
     ];
     let d = x.direction;
     printing::form(
+        rt,
         out,
         at,
         b"# up # # # # # #\n# down # # # # # #\n",
@@ -34,25 +36,29 @@ fn booking(out: &mut [u8; 4096], at: usize, x: Booking) -> usize {
     )
 }
 
-fn bookings(out: &mut [u8; 4096], at: usize, row: [Booking; 40], count: u32) -> usize {
+fn bookings(
+    rt: &impl Outputs,
+    out: &mut [u8; 4096],
+    at: usize,
+    row: [Booking; 40],
+    count: u32,
+) -> usize {
     let mut n = at;
-    let mut i: usize = 0;
-    while i < 40 {
+    for i in 0..40 {
         if i < count as usize {
             let x = row[i];
-            n = booking(out, n, x);
+            n = booking(rt, out, n, x);
         }
-        i += 1;
     }
     n
 }
 
-pub fn list(out: &mut [u8; 4096], at: usize, v: Values, b: Book) -> usize {
+pub fn list(rt: &impl Outputs, out: &mut [u8; 4096], at: usize, v: Values, b: Book) -> usize {
     let a = lesson_list::listed(b, v.first);
     if a.refusal != 0 {
-        return say::refused(out, at, a.refusal);
+        return say::refused(rt, out, at, a.refusal);
     }
     let row = a.row;
-    let n = say::named(out, at, b"list #\n", a.count);
-    bookings(out, n, row, a.count)
+    let n = say::named(rt, out, at, b"list #\n", a.count);
+    bookings(rt, out, n, row, a.count)
 }

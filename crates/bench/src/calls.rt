@@ -12,6 +12,7 @@ use lesson_replies::{
 };
 use lesson_words::numbers::Values;
 use lesson_words::{numbers, samples, words};
+use printing::Outputs;
 
 // A line was answered: the place of the next byte of output, and the book as it now is.
 #[derive(Clone, Copy)]
@@ -32,33 +33,49 @@ fn numbered(call: u32, v: Values) -> Reply {
 }
 
 // The calls that ask and change nothing.
-fn asking(out: &mut [u8; 4096], at: usize, call: u32, v: Values, row: &[u8], b: Book) -> usize {
+fn asking(
+    rt: &impl Outputs,
+    out: &mut [u8; 4096],
+    at: usize,
+    call: u32,
+    v: Values,
+    row: &[u8],
+    b: Book,
+) -> usize {
     match call {
-        4 => book_calls::list(out, at, v, b),
-        5 => summary_calls::summary(out, at, v, b),
-        7 => midamble_calls::midamble(out, at, v),
-        8 => midamble_calls::block(out, at, v),
-        9 => card_calls::pair(out, at, v),
-        10 => card_calls::pairs(out, at, v),
-        12 => timeslot_calls::parts(out, at, v),
-        16 => paging_calls::row(out, at, false, v, row),
-        17 => paging_calls::row(out, at, true, v, row),
-        19 => help::help(out, at),
-        _ => replies::said(out, at, numbered(call, v)),
+        4 => book_calls::list(rt, out, at, v, b),
+        5 => summary_calls::summary(rt, out, at, v, b),
+        7 => midamble_calls::midamble(rt, out, at, v),
+        8 => midamble_calls::block(rt, out, at, v),
+        9 => card_calls::pair(rt, out, at, v),
+        10 => card_calls::pairs(rt, out, at, v),
+        12 => timeslot_calls::parts(rt, out, at, v),
+        16 => paging_calls::row(rt, out, at, false, v, row),
+        17 => paging_calls::row(rt, out, at, true, v, row),
+        19 => help::help(rt, out, at),
+        _ => replies::said(rt, out, at, numbered(call, v)),
     }
 }
 
 // A call whose words are as they should be: the first four change the book.
-fn made(out: &mut [u8; 4096], at: usize, call: u32, v: Values, row: &[u8], b: Book) -> Turn
+fn made(
+    rt: &impl Outputs,
+    out: &mut [u8; 4096],
+    at: usize,
+    call: u32,
+    v: Values,
+    row: &[u8],
+    b: Book,
+) -> Turn
     ensures { result.book ≡ made_by call v b }
 {
     if call < 4 {
         let a = lesson_book::asked(call, v, b);
-        let n = say::done(out, at, a.refusal);
+        let n = say::done(rt, out, at, a.refusal);
         let book = a.book;
         return Turn { at: n, book };
     }
-    let n = asking(out, at, call, v, row, b);
+    let n = asking(rt, out, at, call, v, row, b);
     Turn { at: n, book: b }
 }
 
@@ -66,21 +83,29 @@ fn made(out: &mut [u8; 4096], at: usize, call: u32, v: Values, row: &[u8], b: Bo
 const HEAR: u32 = 11;
 
 // `hear`: its numbers are read, and its samples into a row of as many as a line may have.
-fn heard(out: &mut [u8; 4096], at: usize, number: u64, kinds: &[u8], rest: &[u8]) -> usize {
+fn heard(
+    rt: &impl Outputs,
+    out: &mut [u8; 4096],
+    at: usize,
+    number: u64,
+    kinds: &[u8],
+    rest: &[u8],
+) -> usize {
     let end = words::behind(rest, kinds.len());
     let line = numbers::read(&rest[..end], kinds);
     let mut row = [0.0f32; 1100];
     let air = samples::read(rest, end, &mut row);
     if !(line.fit & air.fit) {
-        return say::expected(out, at, number, HEAR);
+        return say::expected(rt, out, at, number, HEAR);
     }
     let v = line.values;
     let n = air.count;
-    air_calls::hear(out, at, v, &row[..n])
+    air_calls::hear(rt, out, at, v, &row[..n])
 }
 
 // A call by its number: its words are read, and must be of these kinds.
 fn worded(
+    rt: &impl Outputs,
     out: &mut [u8; 4096],
     at: usize,
     number: u64,
@@ -92,22 +117,23 @@ fn worded(
     ensures { result.book ≡ worded_by call kinds.now rest.now b }
 {
     if call == HEAR {
-        let n = heard(out, at, number, kinds, rest);
+        let n = heard(rt, out, at, number, kinds, rest);
         return Turn { at: n, book: b };
     }
     let line = numbers::read(rest, kinds);
     if !line.fit {
-        let n = say::expected(out, at, number, call);
+        let n = say::expected(rt, out, at, number, call);
         return Turn { at: n, book: b };
     }
     let v = line.values;
     let from = line.from;
     let to = line.to;
-    made(out, at, call, v, &rest[from..to], b)
+    made(rt, out, at, call, v, &rest[from..to], b)
 }
 
 // A line by its first word, in a table of twenty calls.
 fn tabled(
+    rt: &impl Outputs,
     out: &mut [u8; 4096],
     at: usize,
     number: u64,
@@ -120,19 +146,28 @@ fn tabled(
 {
     let found = words::look_up(name, table, 20);
     if found.number == 20 {
-        let n = say::unknown(out, at, number, name);
+        let n = say::unknown(rt, out, at, number, name);
         return Turn { at: n, book: b };
     }
     let from = found.from;
     let to = found.to;
-    worded(out, at, number, found.number, &table[from..to], rest, b)
+    worded(rt, out, at, number, found.number, &table[from..to], rest, b)
 }
 
 // The table of calls, each with the kinds of its words: `n` a number, `d` a direction, `r` a row; behind those of `hear` stand samples. `help` is the last and has none.
-fn named(out: &mut [u8; 4096], at: usize, number: u64, name: &[u8], rest: &[u8], b: Book) -> Turn
+fn named(
+    rt: &impl Outputs,
+    out: &mut [u8; 4096],
+    at: usize,
+    number: u64,
+    name: &[u8],
+    rest: &[u8],
+    b: Book,
+) -> Turn
     ensures { result.book ≡ named_line name.now rest.now b }
 {
     tabled(
+        rt,
         out,
         at,
         number,
@@ -144,7 +179,14 @@ fn named(out: &mut [u8; 4096], at: usize, number: u64, name: &[u8], rest: &[u8],
 }
 
 // The reply to line `number`. A line without words has none.
-pub fn answer(out: &mut [u8; 4096], at: usize, number: u64, line: &[u8], b: Book) -> Turn
+pub fn answer(
+    rt: &impl Outputs,
+    out: &mut [u8; 4096],
+    at: usize,
+    number: u64,
+    line: &[u8],
+    b: Book,
+) -> Turn
     ensures { result.book ≡ book_after_line line.now b }
 {
     let end = words::find(line, 0, b'#');
@@ -155,5 +197,5 @@ pub fn answer(out: &mut [u8; 4096], at: usize, number: u64, line: &[u8], b: Book
     if from == to {
         return Turn { at, book: b };
     }
-    named(out, at, number, &text[from..to], &text[to..], b)
+    named(rt, out, at, number, &text[from..to], &text[to..], b)
 }

@@ -8,6 +8,7 @@ use crate::calls::Turn;
 use classbook::Book;
 use lesson_replies::say;
 use lesson_words::words;
+use printing::Outputs;
 
 // What goes on from line to line: the book; how many lines there were; how many bytes of the next one are gathered, 8192 standing for any that are too many;
 // the place of the next byte of output; and whether each line is written before its reply.
@@ -49,30 +50,29 @@ fn going_on(s: Session, at: usize) -> Session
 }
 
 // Writes out the replies so far, and a prompt where somebody types.
-pub fn waiting(out: &mut [u8; 4096], s: Session, typed: bool) -> Session
+pub fn waiting(rt: &impl Outputs, out: &mut [u8; 4096], s: Session, typed: bool) -> Session
     ensures { result.book ≡ s.book }
 {
-    let n = say::prompt(out, s.at, typed);
-    let at = printing::flush(out, n);
+    let n = say::prompt(rt, out, s.at, typed);
+    let at = printing::flush(rt, out, n);
     going_on(s, at)
 }
 
 // Puts bytes behind those of the line that are there, as far as there is room.
 fn gathered(line: &mut [u8; 8192], held: usize, bytes: &[u8]) -> usize {
     let mut n = held;
-    let mut i = 0;
-    while i < bytes.len() {
+    for i in 0..bytes.len() {
         if n < 8192 {
             line[n] = bytes[i];
             n += 1;
         }
-        i += 1;
     }
     n
 }
 
 // The line before its reply, as far as it was gathered, if that is asked for.
 fn echoed(
+    rt: &impl Outputs,
     line: &[u8],
     held: usize,
     out: &mut [u8; 4096],
@@ -82,31 +82,45 @@ fn echoed(
 ) -> usize {
     if echo {
         if held <= line.len() {
-            return say::echoed(out, at, number, &line[..held]);
+            return say::echoed(rt, out, at, number, &line[..held]);
         }
     }
     at
 }
 
 // The line's bytes, answered.
-fn reply(line: &[u8], held: usize, out: &mut [u8; 4096], at: usize, number: u64, b: Book) -> Turn
+fn reply(
+    rt: &impl Outputs,
+    line: &[u8],
+    held: usize,
+    out: &mut [u8; 4096],
+    at: usize,
+    number: u64,
+    b: Book,
+) -> Turn
     ensures { result.book ≡ gathered_line held line.now b }
 {
     if held < line.len() {
-        return calls::answer(out, at, number, &line[..held], b);
+        return calls::answer(rt, out, at, number, &line[..held], b);
     }
-    let n = say::no_call(out, at, number, b": longer than 8191 bytes\n");
+    let n = say::no_call(rt, out, at, number, b": longer than 8191 bytes\n");
     Turn { at: n, book: b }
 }
 
 // The line that is gathered is answered, and the next one begins.
-fn answered(line: &[u8; 8192], held: usize, out: &mut [u8; 4096], s: Session) -> Session
+fn answered(
+    rt: &impl Outputs,
+    line: &[u8; 8192],
+    held: usize,
+    out: &mut [u8; 4096],
+    s: Session,
+) -> Session
     ensures { result.book ≡ gathered_line held line.now s.book }
 {
     let b = s.book;
     let number = std::num::wrapping_add_u64(s.number, 1);
-    let at = echoed(line, held, out, s.at, number, s.echo);
-    let t = reply(line, held, out, at, number, b);
+    let at = echoed(rt, line, held, out, s.at, number, s.echo);
+    let t = reply(rt, line, held, out, at, number, b);
     let book = t.book;
     Session {
         book,
@@ -132,7 +146,13 @@ fn holding(s: Session, held: usize) -> Session
 }
 
 // Answers every line that ends in these bytes and keeps what is left.
-pub fn block(bytes: &[u8], line: &mut [u8; 8192], out: &mut [u8; 4096], s: Session) -> Session {
+pub fn block(
+    rt: &impl Outputs,
+    bytes: &[u8],
+    line: &mut [u8; 8192],
+    out: &mut [u8; 4096],
+    s: Session,
+) -> Session {
     let mut t = s;
     let mut from = 0;
     while from < bytes.len() {
@@ -141,17 +161,23 @@ pub fn block(bytes: &[u8], line: &mut [u8; 8192], out: &mut [u8; 4096], s: Sessi
         if end == bytes.len() {
             return holding(t, held);
         }
-        t = answered(line, held, out, t);
+        t = answered(rt, line, held, out, t);
         from = end + 1;
     }
     t
 }
 
 // Nothing more comes. At the end of the input a line may stand that has no LF; what is left of one anywhere else is none.
-pub fn last(line: &[u8; 8192], out: &mut [u8; 4096], s: Session, ended: bool) -> Session {
+pub fn last(
+    rt: &impl Outputs,
+    line: &[u8; 8192],
+    out: &mut [u8; 4096],
+    s: Session,
+    ended: bool,
+) -> Session {
     let held = s.length;
     if ended & (held > 0) {
-        return answered(line, held, out, s);
+        return answered(rt, line, held, out, s);
     }
     s
 }

@@ -1,6 +1,6 @@
 -- Being type 2 or not parts the types in two, and types do not clash where they are of one part: so one truth value says of all bookings of a timeslot which types
 -- clash with them. Cited by Clash and by the crate facts. Assumes nothing.
-use mathlib.Core.Path.{◌≡◌, refl, sym, ◌∙◌}
+use mathlib.Core.Path.{◌≡◌, refl, sym}
 use mathlib.Core.Logic.{◌↔◌}
 use mathlib.Core.Bool.{Bool, true, false, xor}
 use Prim.Native.Nat.{ℕ}

@@ -1,10 +1,8 @@
 -- A booking with its values taken apart, and the calls by number. Cited by the proofs of `request`, `booked` and `asked`.
 -- Assumes nothing.
 use mathlib.Core.Path.{◌≡◌, sym, ap, ◌∙◌}
-use mathlib.Core.Bool.{Bool, cond}
 use Prim.Native.Nat.{ℕ}
 use borrow.Author.Tests.{ne_eqb}
-use lib.Dec.{eqb}
 use Rattle.conditions.specs.declared.Direction.{Direction}
 use Rattle.classbook.specs.declared.Book.{Book}
 use Rattle.classbook.specs.declared.Request.{Request}
@@ -12,7 +10,7 @@ use Rattle.classbook.specs.declared.BookAnswer.{BookAnswer}
 use Rattle.classbook.specs.Calls.{book_answer}
 use Rattle.lesson_words.specs.declared.numbers.Values.{Values}
 use Rattle.lesson_words.specs.Numbers.{direction_by}
-use Rattle.lesson_book.specs.Asked.{open_asked, request_of, book_asked, cancel_asked, close_asked, asked_by}
+use Rattle.lesson_book.specs.Asked.{request_of, book_asked, close_asked, asked_by}
 
 -- a request with this direction
 abbrev asking : Values → Direction → Request

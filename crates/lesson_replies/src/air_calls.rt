@@ -6,6 +6,7 @@ ghost use Rattle.lesson_replies.specs.Replies.{hear_asked};
 use crate::say;
 use hearing::HearAnswer;
 use lesson_words::numbers::Values;
+use printing::Outputs;
 
 // `hear CELL TYPE COUNT SAMPLE ..`
 fn who(v: Values, row: &[f32]) -> HearAnswer
@@ -14,14 +15,14 @@ fn who(v: Values, row: &[f32]) -> HearAnswer
     hearing::hear(v.first, v.second, v.third, row)
 }
 
-pub fn hear(out: &mut [u8; 4096], at: usize, v: Values, row: &[f32]) -> usize {
+pub fn hear(rt: &impl Outputs, out: &mut [u8; 4096], at: usize, v: Values, row: &[f32]) -> usize {
     match who(v, row) {
-        HearAnswer::Refused(n) => say::refused(out, at, n),
-        HearAnswer::Nobody => printing::word(out, at, b"nobody\n"),
+        HearAnswer::Refused(n) => say::refused(rt, out, at, n),
+        HearAnswer::Nobody => printing::word(rt, out, at, b"nobody\n"),
         HearAnswer::User(k, re, im) => {
-            let n = say::named(out, at, b"user #", k);
+            let n = say::named(rt, out, at, b"user #", k);
             let sums = [re, im];
-            say::wholes(out, n, b"", &sums, 2)
+            say::wholes(rt, out, n, b"", &sums, 2)
         }
     }
 }

@@ -1,7 +1,9 @@
 // `help`: the calls and their replies.
+use printing::Outputs;
 
-pub fn help(out: &mut [u8; 4096], at: usize) -> usize {
+pub fn help(rt: &impl Outputs, out: &mut [u8; 4096], at: usize) -> usize {
     printing::word(
+        rt,
         out,
         at,
         b"open SEAT CELL CASE K LONG SHORT        ok\n\

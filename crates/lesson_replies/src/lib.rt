@@ -1,5 +1,6 @@
 // docs/LESSONS.md: the calls of a lesson that ask for numbers and change nothing, and every reply as a line of output.
 #![tactic(auto)]
+
 pub mod air_calls;
 pub mod beacon_calls;
 pub mod card_calls;

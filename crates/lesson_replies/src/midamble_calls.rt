@@ -9,6 +9,7 @@ use crate::{replies, say};
 use blocks::{BlockAnswer, BlockReply, Place};
 use lesson_words::numbers::Values;
 use midambles::{ChipAnswer, MidambleAnswer};
+use printing::Outputs;
 
 pub fn chip(v: Values) -> Reply
     ensures { result ≡ chip_asked v }
@@ -19,11 +20,11 @@ pub fn chip(v: Values) -> Reply
     }
 }
 
-pub fn midamble(out: &mut [u8; 4096], at: usize, v: Values) -> usize {
+pub fn midamble(rt: &impl Outputs, out: &mut [u8; 4096], at: usize, v: Values) -> usize {
     let mut chips = [0u8; 512];
     match midambles::midamble(v.first, v.second, v.third, v.fourth, &mut chips) {
-        MidambleAnswer::Refused(n) => say::refused(out, at, n),
-        MidambleAnswer::Written(n) => say::digits(out, at, b"midamble ", &chips, n),
+        MidambleAnswer::Refused(n) => say::refused(rt, out, at, n),
+        MidambleAnswer::Written(n) => say::digits(rt, out, at, b"midamble ", &chips, n),
     }
 }
 
@@ -53,17 +54,23 @@ fn filled(v: Values, out: &mut [u8]) -> BlockReply
 }
 
 // The same as a line, with room for the chips.
-fn filled_line(out: &mut [u8; 4096], at: usize, v: Values, chips: &mut [u8]) -> usize {
+fn filled_line(
+    rt: &impl Outputs,
+    out: &mut [u8; 4096],
+    at: usize,
+    v: Values,
+    chips: &mut [u8],
+) -> usize {
     let lent = bytes_lent(v.sixth, chips.len());
     let r = filled(v, &mut chips[..lent]);
     let a = r.answer;
     match a {
-        BlockAnswer::Refused(n) => say::refused(out, at, n),
-        BlockAnswer::Written(n) => say::counted(out, at, chips, n),
+        BlockAnswer::Refused(n) => say::refused(rt, out, at, n),
+        BlockAnswer::Written(n) => say::counted(rt, out, at, chips, n),
     }
 }
 
-pub fn block(out: &mut [u8; 4096], at: usize, v: Values) -> usize {
+pub fn block(rt: &impl Outputs, out: &mut [u8; 4096], at: usize, v: Values) -> usize {
     let mut chips = [0u8; 512];
-    filled_line(out, at, v, &mut chips)
+    filled_line(rt, out, at, v, &mut chips)
 }

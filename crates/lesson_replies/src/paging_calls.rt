@@ -6,6 +6,7 @@ use crate::replies::Reply;
 use crate::{replies, say};
 use lesson_words::numbers::Values;
 use paging::{IndicatorAnswer, OwnerAnswer, PageAnswer, ReadPageAnswer};
+use printing::Outputs;
 
 // The last of `length` bits from `first`.
 fn last(first: u32, length: u32) -> u32 {
@@ -54,41 +55,60 @@ fn first(row: &[u8], n: usize) -> &[u8] {
 
 // Writes the digits of a row as bytes of 0 and 1, and gives back how many.
 fn row_of(word: &[u8], out: &mut [u8; 1024]) -> usize {
-    let mut i = 0;
-    while i < word.len() {
+    for i in 0..word.len() {
         if i == 1024 {
             return 1024;
         }
         out[i] = word[i] % 2;
-        i += 1;
     }
-    i
+    word.len()
 }
 
 // The bits of the first n settings of a row.
-fn written(out: &mut [u8; 4096], at: usize, v: Values, row: &[u8; 1024], n: usize) -> usize {
+fn written(
+    rt: &impl Outputs,
+    out: &mut [u8; 4096],
+    at: usize,
+    v: Values,
+    row: &[u8; 1024],
+    n: usize,
+) -> usize {
     let mut bits = [0u8; 276];
     match paging::page(v.first, v.second, first(row, n), &mut bits) {
-        PageAnswer::Refused(n) => say::refused(out, at, n),
-        PageAnswer::Written(n) => say::digits(out, at, b"bits ", &bits, n),
+        PageAnswer::Refused(n) => say::refused(rt, out, at, n),
+        PageAnswer::Written(n) => say::digits(rt, out, at, b"bits ", &bits, n),
     }
 }
 
 // The settings in the first n bits of a row.
-fn heard(out: &mut [u8; 4096], at: usize, v: Values, row: &[u8; 1024], n: usize) -> usize {
+fn heard(
+    rt: &impl Outputs,
+    out: &mut [u8; 4096],
+    at: usize,
+    v: Values,
+    row: &[u8; 1024],
+    n: usize,
+) -> usize {
     let mut settings = [0u8; 68];
     match paging::read_page(v.first, v.second, first(row, n), &mut settings) {
-        ReadPageAnswer::Refused(n) => say::refused(out, at, n),
-        ReadPageAnswer::Written(n) => say::digits(out, at, b"settings ", &settings, n),
+        ReadPageAnswer::Refused(n) => say::refused(rt, out, at, n),
+        ReadPageAnswer::Written(n) => say::digits(rt, out, at, b"settings ", &settings, n),
     }
 }
 
 // `page` or `read`: a row of digits is the word that was read last.
-pub fn row(out: &mut [u8; 4096], at: usize, reading: bool, v: Values, word: &[u8]) -> usize {
+pub fn row(
+    rt: &impl Outputs,
+    out: &mut [u8; 4096],
+    at: usize,
+    reading: bool,
+    v: Values,
+    word: &[u8],
+) -> usize {
     let mut row = [0u8; 1024];
     let n = row_of(word, &mut row);
     if reading {
-        return heard(out, at, v, &row, n);
+        return heard(rt, out, at, v, &row, n);
     }
-    written(out, at, v, &row, n)
+    written(rt, out, at, v, &row, n)
 }

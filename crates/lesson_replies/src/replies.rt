@@ -4,6 +4,7 @@ ghost use Rattle.std.specs.Prelude.{◌≡◌};
 ghost use Rattle.lesson_replies.specs.Replies.{refused_reply, line_reply};
 
 use crate::say;
+use printing::Outputs;
 
 #[derive(Clone, Copy)]
 pub struct Reply {
@@ -79,12 +80,13 @@ pub fn one(form: u32, a: u32) -> Reply
     two(form, a, 0)
 }
 
-pub fn said(out: &mut [u8; 4096], at: usize, r: Reply) -> usize {
+pub fn said(rt: &impl Outputs, out: &mut [u8; 4096], at: usize, r: Reply) -> usize {
     if r.refusal != 0 {
-        return say::refused(out, at, r.refusal);
+        return say::refused(rt, out, at, r.refusal);
     }
     let numbers = [r.a, r.b, r.c, r.d, r.e, r.f];
     printing::form(
+        rt,
         out,
         at,
         b"chip #\n\

@@ -6,6 +6,7 @@ ghost use Rattle.lesson_replies.specs.Summary.{leaf_digit, leaf_digits, refused_
 use crate::say;
 use classbook::Book;
 use lesson_words::numbers::Values;
+use printing::Outputs;
 use slots::Way;
 use summaries::{Glance, SummaryReply};
 
@@ -40,10 +41,8 @@ fn numbers_of(leaves: u16, count: u32) -> [u32; 17]
     ensures { result ≡ leaf_digits leaves ++ (count ∷ []) }
 {
     let mut numbers = [count; 17];
-    let mut i: usize = 0;
-    while i < 16 {
+    for i in 0..16 {
         numbers[i] = digit(leaves, i as u32);
-        i += 1;
     }
     numbers
 }
@@ -80,13 +79,14 @@ fn summed(v: Values, b: Book) -> SummaryLine
     }
 }
 
-pub fn summary(out: &mut [u8; 4096], at: usize, v: Values, b: Book) -> usize {
+pub fn summary(rt: &impl Outputs, out: &mut [u8; 4096], at: usize, v: Values, b: Book) -> usize {
     let r = summed(v, b);
     if r.refusal != 0 {
-        return say::refused(out, at, r.refusal);
+        return say::refused(rt, out, at, r.refusal);
     }
     let numbers = r.numbers;
     printing::form(
+        rt,
         out,
         at,
         b"summary ################ up #\n\

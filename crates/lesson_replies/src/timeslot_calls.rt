@@ -6,9 +6,10 @@ use crate::replies::Reply;
 use crate::{replies, say};
 use lesson_words::numbers;
 use lesson_words::numbers::Values;
+use printing::Outputs;
 use timeslots::{AtAnswer, Layout, PartsAnswer, Symbol};
 
-fn layout(out: &mut [u8; 4096], at: usize, l: Layout) -> usize {
+fn layout(rt: &impl Outputs, out: &mut [u8; 4096], at: usize, l: Layout) -> usize {
     let numbers = [
         l.data1.start,
         l.data1.length,
@@ -28,6 +29,7 @@ fn layout(out: &mut [u8; 4096], at: usize, l: Layout) -> usize {
         l.bits2,
     ];
     printing::form(
+        rt,
         out,
         at,
         b"parts #+# #+# #+# #+# #+# #+# #+# bits # #\n",
@@ -36,7 +38,7 @@ fn layout(out: &mut [u8; 4096], at: usize, l: Layout) -> usize {
     )
 }
 
-pub fn parts(out: &mut [u8; 4096], at: usize, v: Values) -> usize {
+pub fn parts(rt: &impl Outputs, out: &mut [u8; 4096], at: usize, v: Values) -> usize {
     match timeslots::parts(
         v.first,
         numbers::direction(v.second),
@@ -44,8 +46,8 @@ pub fn parts(out: &mut [u8; 4096], at: usize, v: Values) -> usize {
         v.fourth,
         v.fifth,
     ) {
-        PartsAnswer::Refused(n) => say::refused(out, at, n),
-        PartsAnswer::Parts(l) => layout(out, at, l),
+        PartsAnswer::Refused(n) => say::refused(rt, out, at, n),
+        PartsAnswer::Parts(l) => layout(rt, out, at, l),
     }
 }
 

@@ -1,6 +1,6 @@
 -- A direction that is neither up nor down: the calls of the library, asked with a factor that is none, are refused as the tables over C say, with 6 at 6's place.
 -- Cited by the proofs of `mq_parts` and `mq_at`. Assumes nothing.
-use mathlib.Core.Path.{◌≡◌, refl, sym, ap, ◌∙◌}
+use mathlib.Core.Path.{◌≡◌, refl}
 use mathlib.Core.Bool.{Bool, true, false, cond}
 use mathlib.Core.List.{[], ◌∷◌, ◌++◌}
 use Prim.Native.Nat.{ℕ}

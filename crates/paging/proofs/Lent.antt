@@ -1,6 +1,6 @@
 -- What a call on one frame's lent bytes refuses, answers and leaves: `need N H` bytes are read, `room N H` written, and `made N H` is what they are then.
 -- One law for `page` and `read_page`. Assumes nothing.
-use mathlib.Core.Path.{◌≡◌, sym, ap, ◌∙◌}
+use mathlib.Core.Path.{◌≡◌, sym, ◌∙◌}
 use mathlib.Core.Bool.{◌||◌}
 use mathlib.Core.List.{List, ◌++◌}
 use Prim.Native.Nat.{ℕ}

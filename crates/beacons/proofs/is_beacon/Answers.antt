@@ -1,6 +1,5 @@
 -- `beacons::is_beacon` meets its contract: its tests ask for one of the listed timeslots.
 -- Assumes nothing.
-use borrow.Author.Rules.{rules}
 use Rattle.beacons.proofs.Passed.{is_beacon_tested}
 use Rattle.beacons.proofs.is_beacon.Goals as goal
 

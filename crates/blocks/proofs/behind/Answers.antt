@@ -1,7 +1,6 @@
 -- `blocks::behind` meets its contract: field by field.
 -- Assumes nothing.
 use mathlib.Core.Path.{refl}
-use borrow.Author.Rules.{rules}
 use Rattle.blocks.specs.Blocks.{place_behind}
 use Rattle.blocks.proofs.behind.Goals as goal
 

@@ -1,13 +1,10 @@
 -- `blocks::block` meets its promise: each `return` is a law of Answers, handed what the callees ensure and how the test went.
 -- Assumes nothing.
-use mathlib.Core.Path.{◌≡◌, sym, ◌∙◌}
+use mathlib.Core.Path.{sym, ◌∙◌}
 use native.Mathlib.Omega.{arith}
 use lib.ListN.{length}
-use borrow.Author.Rules.{rules}
-use Rattle.refusals.specs.Refusals.{first_of}
 use Rattle.codes.proofs.Numbers.{length_high}
 use Rattle.blocks.specs.Blocks.{block_of}
-use Rattle.blocks.specs.Calls.{block_refusals}
 use Rattle.blocks.proofs.Chips.{within}
 use Rattle.blocks.proofs.Answers.{good_user, good_place, block_refused, block_written}
 use Rattle.blocks.proofs.block.Goals as goal

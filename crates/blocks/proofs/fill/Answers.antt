@@ -3,7 +3,6 @@
 use mathlib.Core.Path.{ap}
 use Prim.Native.Nat.{ℕ, ◌+◌}
 use native.Mathlib.Omega.{arith}
-use borrow.Author.Rules.{rules}
 use Rattle.codes.proofs.Numbers.{length_high, shift_low}
 use Rattle.blocks.proofs.Chips.{few, none_in, read_on}
 use Rattle.blocks.proofs.fill.Goals as goal

@@ -5,7 +5,6 @@ use Prim.Native.Nat.{◌-◌}
 use native.Mathlib.Omega.{arith}
 use lib.ListN.{length}
 use lib.Seq.{length-take-le, take_all}
-use borrow.Author.Rules.{rules}
 use Rattle.codes.specs.declared.Code.{Code}
 use Rattle.codes.specs.Codes.{code_of}
 use Rattle.blocks.specs.Blocks.{to_come}

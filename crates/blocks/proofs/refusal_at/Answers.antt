@@ -1,6 +1,5 @@
 -- `blocks::refusal_at` meets its contract: the tests are the table's, in its order.
 -- Assumes nothing.
-use borrow.Author.Rules.{rules}
 use Rattle.blocks.proofs.Answers.{block_first}
 use Rattle.blocks.proofs.refusal_at.Goals as goal
 

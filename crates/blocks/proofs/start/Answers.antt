@@ -1,6 +1,5 @@
 -- `blocks::start` meets its promise: each `return` is a law of Answers, handed what the tests of the user gave.
 -- Assumes nothing.
-use borrow.Author.Rules.{rules}
 use Rattle.blocks.proofs.Answers.{start_refused, start_answered}
 use Rattle.blocks.proofs.start.Goals as goal
 

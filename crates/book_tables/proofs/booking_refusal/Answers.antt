@@ -13,7 +13,6 @@ use Rattle.seats.specs.Conditions.{not_permitted, clashes_with, off_beacon}
 use Rattle.seats.specs.Seats.{held, bookings}
 use Rattle.seats.proofs.Sound.{clash_kept}
 use Rattle.book_tables.specs.Inside.{own_rows, seat_rows, booking_rows}
-use borrow.Author.Rules.{rules}
 use Rattle.book_tables.proofs.booking_refusal.Goals as goal
 
 -- what the tests gave, m of the seat's table, and r behind it; of a book that breaks its conditions nothing else is asked

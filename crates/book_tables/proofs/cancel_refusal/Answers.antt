@@ -9,7 +9,6 @@ use Rattle.refusals.specs.Inside.{or_refused, row_by_row}
 use Rattle.refusals.proofs.First.{first_row_by_row}
 use Rattle.conditions.specs.Conditions.{bad_timeslot, bad_code}
 use Rattle.book_tables.specs.Inside.{cancel_rows}
-use borrow.Author.Rules.{rules}
 use Rattle.book_tables.proofs.cancel_refusal.Goals as goal
 
 six-rows : (ok : Bool) (seat : ℕ) (live : Bool) (timeslot factor index : ℕ) (none five six : Bool) (r₁ r₂ r₃ r₄ r₅ r₆ : ℕ)

@@ -10,7 +10,6 @@ use Rattle.refusals.proofs.First.{numbered, append_rows}
 use mathlib.Core.List.{◌∷◌, []}
 use Rattle.tables.specs.Tables.{settings_refusals}
 use Rattle.book_tables.specs.Inside.{open_rows}
-use borrow.Author.Rules.{rules}
 use Rattle.book_tables.proofs.open_refusal.Goals as goal
 
 settings_numbered : (cell case k long short : ℕ) → T (numbered (settings_refusals cell case k long short))

@@ -5,7 +5,6 @@ use mathlib.Core.Bool.{Bool}
 use Prim.Native.Nat.{ℕ}
 use Rattle.refusals.specs.Inside.{or_refused, row_by_row}
 use Rattle.book_tables.specs.Inside.{own_rows}
-use borrow.Author.Rules.{rules}
 use Rattle.book_tables.proofs.own_refusal.Goals as goal
 
 five-rows : (n : ℕ) (barred clash off full out : Bool) (r₁ r₂ r₃ r₄ r₅ : ℕ)

@@ -8,7 +8,6 @@ use Rattle.refusals.specs.Refusals.{first_of}
 use Rattle.refusals.specs.Inside.{or_refused, row_by_row}
 use Rattle.refusals.proofs.First.{first_row_by_row}
 use Rattle.book_tables.specs.Inside.{seat_rows}
-use borrow.Author.Rules.{rules}
 use Rattle.book_tables.proofs.seat_refusal.Goals as goal
 
 three-rows : (ok live : Bool) (seat r₁ r₂ r₃ : ℕ)

@@ -8,7 +8,6 @@ use Rattle.refusals.specs.Refusals.{first_of}
 use Rattle.conditions.specs.Conditions.{is_down}
 use Rattle.bookings.specs.declared.Booking.{Booking}
 use Rattle.bookings.specs.Bookings.{is_code, breaks_beacon, beacon_rules}
-use borrow.Author.Rules.{rules}
 use Rattle.bookings.proofs.breaks_beacon.Goals as goal
 
 one-of-six : (a b c d e f : Bool) → (a || ((b || c) || ((d || e) || f))) ≡ not (eqb (first_of ((1, a) ∷ (2, b) ∷ (3, c) ∷ (4, d) ∷ (5, e) ∷ (6, f) ∷ [])) 0)

@@ -5,7 +5,6 @@ use Prim.Native.Nat.{ℕ}
 use lib.Dec.{ltb}
 use Rattle.bookings.specs.declared.Booking.{Booking}
 use Rattle.bookings.specs.Bookings.{key, comes}
-use borrow.Author.Rules.{rules}
 use Rattle.bookings.proofs.comes_before.Goals as goal
 
 as-defined : (x y : Booking) (a b : ℕ) → a ≡ key x → b ≡ key y → ltb a b ≡ comes x y

@@ -1,7 +1,6 @@
 -- `bookings::form_of` meets its contract: its numbers are handed on.
 -- Assumes nothing.
 use Rattle.bookings.specs.Bookings.{form_of}
-use borrow.Author.Rules.{rules}
 use Rattle.bookings.proofs.form_of.Goals as goal
 
 pub returns : goal.returns

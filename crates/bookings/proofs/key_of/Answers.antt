@@ -6,7 +6,6 @@ use native.Mathlib.Omega.{arith}
 use Rattle.bookings.specs.declared.Booking.{Booking}
 use Rattle.bookings.specs.Bookings.{leaf, key}
 use Rattle.bookings.proofs.Leaves.{leaf_told}
-use borrow.Author.Rules.{rules}
 use Rattle.bookings.proofs.key_of.Goals as goal
 
 as-defined : (x : Booking) (a : ℕ) → a ≡ leaf x → x.timeslot * 16 + a ≡ key x

@@ -8,7 +8,6 @@ use Rattle.classbook.specs.Inside.{booking_answer}
 use Rattle.classbook.proofs.Answers.{refused_by}
 use Rattle.classbook.proofs.Made.{book_early, book_late, form_kept}
 use Rattle.classbook.proofs.Small.{request_small}
-use borrow.Author.Rules.{rules}
 use Rattle.classbook.proofs.book_code.Goals as goal
 
 pub returns-then-n-ne0 : goal.returns-then-n-ne0

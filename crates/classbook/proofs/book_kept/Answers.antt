@@ -9,7 +9,6 @@ use Rattle.classbook.specs.Inside.{booking_answer}
 use Rattle.classbook.proofs.Answers.{refused_by, made_by}
 use Rattle.classbook.proofs.Tables.{booking_table}
 use Rattle.classbook.proofs.Made.{found_good, booking_ready, booked_made}
-use borrow.Author.Rules.{rules}
 use Rattle.classbook.proofs.book_kept.Goals as goal
 
 pub booking_refusal-n-requires : goal.booking_refusal-n-requires

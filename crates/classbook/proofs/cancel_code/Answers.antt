@@ -9,7 +9,6 @@ use Rattle.classbook.specs.Calls.{with_book, cancel_answer}
 use Rattle.classbook.proofs.Answers.{refused_by, made_by}
 use Rattle.classbook.proofs.Tables.{cancel_table}
 use Rattle.classbook.proofs.Made.{one_named, cancel_ready, cancelled_made}
-use borrow.Author.Rules.{rules}
 use Rattle.classbook.proofs.cancel_code.Goals as goal
 
 pub returns-then-n-ne0 : goal.returns-then-n-ne0

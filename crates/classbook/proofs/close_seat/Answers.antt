@@ -7,7 +7,6 @@ use Rattle.seats.specs.Seats.{closed}
 use Rattle.classbook.specs.Book.{with_seat}
 use Rattle.classbook.specs.Calls.{with_book, close_answer}
 use Rattle.classbook.proofs.Tables.{seat_table}
-use borrow.Author.Rules.{rules}
 use Rattle.classbook.proofs.close_seat.Goals as goal
 
 pub returns : goal.returns

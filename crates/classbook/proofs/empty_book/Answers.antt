@@ -4,7 +4,6 @@ use mathlib.Core.Path.{ap}
 use lib.ListN.{replicate}
 use Rattle.seats.specs.declared.Seat.{Seat}
 use Rattle.classbook.specs.Book.{empty_book}
-use borrow.Author.Rules.{rules}
 use Rattle.classbook.proofs.empty_book.Goals as goal
 
 pub returns : goal.returns

@@ -2,7 +2,6 @@
 -- Assumes nothing.
 use mathlib.Core.Path.{refl}
 use Rattle.classbook.specs.Calls.{as_booking}
-use borrow.Author.Rules.{rules}
 use Rattle.classbook.proofs.kept.Goals as goal
 
 pub returns : goal.returns

@@ -6,7 +6,6 @@ use Rattle.refusals.specs.Refusals.{first_of}
 use Rattle.seats.specs.declared.Seat.{Seat}
 use Rattle.classbook.specs.Calls.{seat_refusals, list_with, list_answer}
 use Rattle.classbook.proofs.Tables.{seat_table}
-use borrow.Author.Rules.{rules}
 use Rattle.classbook.proofs.list_seat.Goals as goal
 
 pub returns : goal.returns

@@ -1,7 +1,6 @@
 -- `classbook::listed` meets its contract: nothing, or the seat's row.
 -- Assumes nothing.
 use Rattle.classbook.proofs.Answers.{list_refused, list_given}
-use borrow.Author.Rules.{rules}
 use Rattle.classbook.proofs.listed.Goals as goal
 
 pub returns-then-n-ne0 : goal.returns-then-n-ne0

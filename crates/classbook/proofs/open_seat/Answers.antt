@@ -11,7 +11,6 @@ use Rattle.classbook.proofs.Answers.{refused_by, made_by}
 use Rattle.classbook.proofs.Tables.{open_table}
 use Rattle.classbook.proofs.Made.{settings_passed}
 use Rattle.classbook.proofs.Small.{settings_small}
-use borrow.Author.Rules.{rules}
 use Rattle.classbook.proofs.open_seat.Goals as goal
 
 pub returns-then-n-ne0 : goal.returns-then-n-ne0

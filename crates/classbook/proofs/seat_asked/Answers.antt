@@ -9,7 +9,6 @@ use Rattle.classbook.specs.declared.SeatAnswer.{SeatAnswer}
 use Rattle.classbook.specs.Book.{seat_of}
 use Rattle.classbook.specs.Calls.{seat_refusals, seat_answer}
 use Rattle.classbook.proofs.Tables.{seat_table}
-use borrow.Author.Rules.{rules}
 use Rattle.classbook.proofs.seat_asked.Goals as goal
 
 as-defined : (b : Book) (seat n : ℕ) (s : Seat) → n ≡ first_of (seat_refusals b seat) → s ≡ seat_of b seat → ◌≡◌ {A = SeatAnswer} (record { refusal = n; seat = s }) (seat_answer b seat)

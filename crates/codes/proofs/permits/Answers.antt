@@ -5,7 +5,6 @@ use mathlib.Core.Bool.{◌&&◌}
 use Prim.Native.Nat.{ℕ, ◌*◌, ◌%◌, ◌≤◌}
 use native.Mathlib.Omega.{arith}
 use lib.Dec.{eqb, leb}
-use borrow.Author.Rules.{rules}
 use borrow.Author.Tests.{eq-eqb, ne_eqb}
 use Rattle.laws.proofs.Bools.{or_none}
 use Rattle.codes.specs.declared.Code.{Code}

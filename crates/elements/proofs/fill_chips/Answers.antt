@@ -5,7 +5,6 @@ use mathlib.Core.List.{[], ◌++◌}
 use Prim.Native.Nat.{ℕ, ◌+◌}
 use native.Mathlib.Omega.{arith}
 use lib.ListN.{get_or, drop}
-use borrow.Author.Rules.{rules}
 use Rattle.laws.specs.Runs.{run}
 use Rattle.codes.specs.declared.Code.{Code}
 use Rattle.codes.specs.Codes.{code_of}

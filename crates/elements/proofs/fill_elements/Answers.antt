@@ -1,6 +1,5 @@
 -- `elements::fill_elements` meets its contract: the burst type picks the rows.
 -- Assumes nothing.
-use borrow.Author.Rules.{rules}
 use Rattle.elements.proofs.Rows.{short_served, long_served}
 use Rattle.elements.proofs.fill_elements.Goals as goal
 

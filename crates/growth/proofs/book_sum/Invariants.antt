@@ -1,6 +1,6 @@
 -- `growth::book_sum` is safe and ends.
 -- Assumes nothing.
-use Rattle.std.proofs.Common.{◌-◌, ◌≤◌, rules}
+use Rattle.std.proofs.Common.{◌-◌, ◌≤◌}
 use Rattle.growth.proofs.book_sum.Given as goal
 
 abbrev pub invariant-loop-n : goal.invariant-loop-n

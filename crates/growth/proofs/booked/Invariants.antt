@@ -1,6 +1,6 @@
 -- `growth::booked` is safe and ends.
 -- Assumes nothing.
-use Rattle.std.proofs.Common.{◌-◌, ◌≤◌, arith, rules}
+use Rattle.std.proofs.Common.{◌-◌, ◌≤◌}
 use Rattle.growth.proofs.booked.Given as goal
 
 abbrev pub invariant-loop-j : goal.invariant-loop-j

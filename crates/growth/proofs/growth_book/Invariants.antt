@@ -1,6 +1,6 @@
 -- `growth::growth_book` is safe and ends.
 -- Assumes nothing.
-use Rattle.std.proofs.Common.{◌-◌, ◌≤◌, arith, rules}
+use Rattle.std.proofs.Common.{◌-◌, ◌≤◌}
 use Rattle.growth.proofs.growth_book.Given as goal
 
 abbrev pub invariant-loop-t : goal.invariant-loop-t

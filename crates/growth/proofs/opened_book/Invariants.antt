@@ -1,6 +1,6 @@
 -- `growth::opened_book` is safe and ends.
 -- Assumes nothing.
-use Rattle.std.proofs.Common.{◌-◌, ◌≤◌, rules}
+use Rattle.std.proofs.Common.{◌-◌, ◌≤◌}
 use Rattle.growth.proofs.opened_book.Given as goal
 
 abbrev pub invariant-loop-i : goal.invariant-loop-i

@@ -1,6 +1,6 @@
 -- `growth::row_sum` is safe and ends.
 -- Assumes nothing.
-use Rattle.std.proofs.Common.{◌-◌, ◌≤◌, arith, rules}
+use Rattle.std.proofs.Common.{◌-◌, ◌≤◌}
 use Rattle.growth.proofs.row_sum.Given as goal
 
 abbrev pub invariant-loop-m : goal.invariant-loop-m

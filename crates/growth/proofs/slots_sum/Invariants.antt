@@ -1,6 +1,6 @@
 -- `growth::slots_sum` is safe and ends.
 -- Assumes nothing.
-use Rattle.std.proofs.Common.{◌-◌, ◌≤◌, rules}
+use Rattle.std.proofs.Common.{◌-◌, ◌≤◌}
 use Rattle.growth.proofs.slots_sum.Given as goal
 
 abbrev pub invariant-loop-t : goal.invariant-loop-t

@@ -7,7 +7,6 @@ use native.Mathlib.Omega.{arith}
 use Rattle.conditions.specs.Conditions.{bad_code}
 use Rattle.leaves.specs.Leaves.{leaves_of, first_leaf, covers, pattern}
 use Rattle.leaves.proofs.Masks.{shifted, covered}
-use borrow.Author.Rules.{rules}
 use Rattle.leaves.proofs.mask_of.Goals as goal
 
 -- where n and a are what was told of a good code

@@ -2,7 +2,6 @@
 -- Assumes nothing.
 use Rattle.lesson_book.specs.Asked.{asked_by}
 use Rattle.lesson_book.proofs.Read.{asked_as, asked_last}
-use borrow.Author.Rules.{rules}
 use Rattle.lesson_book.proofs.asked.Goals as goal
 
 pub returns-in-0 : goal.returns-in-0

@@ -2,7 +2,6 @@
 -- Assumes nothing.
 use mathlib.Core.Path.{◌∙◌}
 use Rattle.lesson_book.proofs.Read.{book_read}
-use borrow.Author.Rules.{rules}
 use Rattle.lesson_book.proofs.booked.Goals as goal
 
 pub returns : goal.returns

@@ -1,7 +1,6 @@
 -- `lesson_book::cancelled` meets its contract: the call is made with the first four values.
 -- Assumes nothing.
 use Rattle.lesson_book.specs.Asked.{cancel_asked}
-use borrow.Author.Rules.{rules}
 use Rattle.lesson_book.proofs.cancelled.Goals as goal
 
 pub returns : goal.returns

@@ -1,7 +1,6 @@
 -- `lesson_book::request` meets its contract: each value goes to its field.
 -- Assumes nothing.
 use Rattle.lesson_book.proofs.Read.{request_read}
-use borrow.Author.Rules.{rules}
 use Rattle.lesson_book.proofs.request.Goals as goal
 
 pub returns : goal.returns

@@ -1,7 +1,6 @@
 -- `lesson_list::by_value` meets its contract: case by case.
 -- Assumes nothing.
 use mathlib.Core.Path.{refl}
-use borrow.Author.Rules.{rules}
 use Rattle.lesson_list.specs.Inside.{by_value}
 use Rattle.lesson_list.proofs.by_value.Goals as goal
 

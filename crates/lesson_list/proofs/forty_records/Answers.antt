@@ -2,7 +2,6 @@
 -- Assumes nothing.
 use mathlib.Core.Path.{ap}
 use lib.ListN.{replicate}
-use borrow.Author.Rules.{rules}
 use Rattle.bookings.specs.declared.Booking.{Booking}
 use Rattle.lesson_list.proofs.forty_records.Goals as goal
 

@@ -1,10 +1,10 @@
 -- `listing::fill` meets its contract: one record more a turn, from the front.
 -- Assumes nothing.
-use mathlib.Core.Path.{◌≡◌, refl, sym, ap, ◌∙◌}
-use Prim.Native.Nat.{ℕ, ◌≤◌}
+use mathlib.Core.Path.{◌≡◌, refl, ap, ◌∙◌}
+use Prim.Native.Nat.{ℕ}
 use native.Mathlib.Nat.{le_antisymm}
 use native.Mathlib.Omega.{arith}
-use lib.ListN.{length, set}
+use lib.ListN.{length}
 use Rattle.seats.specs.Seats.{blank}
 use Rattle.listing.proofs.Written.{so_far, one_more}
 use Rattle.listing.proofs.fill.Goals as goal

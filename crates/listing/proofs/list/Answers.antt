@@ -1,7 +1,6 @@
 -- `listing::list` meets its contract: what is selected is written and replied.
 -- Assumes nothing.
-use mathlib.Core.Path.{◌≡◌, refl, sym, ap, ◌∙◌}
-use Prim.Native.Nat.{ℕ, ◌≤◌}
+use mathlib.Core.Path.{◌≡◌, ap, ◌∙◌}
 use native.Mathlib.Omega.{arith}
 use lib.ListN.{length}
 use Rattle.classbook.specs.declared.ListAnswer.{ListAnswer}

@@ -1,6 +1,5 @@
 -- `listing::selected` meets its contract: 11 and nothing, or the list by value.
 -- Assumes nothing.
-use borrow.Author.Rules.{rules}
 use Rattle.listing.proofs.Answered.{selected_few, selected_given}
 use Rattle.listing.proofs.selected.Goals as goal
 

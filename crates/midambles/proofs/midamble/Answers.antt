@@ -2,9 +2,7 @@
 -- Assumes nothing.
 use native.Mathlib.Omega.{arith}
 use Rattle.codes.proofs.Numbers.{shift_low}
-use Rattle.midambles.proofs.Passed.{Passed}
 use Rattle.midambles.proofs.Answers.{midamble_refused, midamble_passed, midamble_room, midamble_written}
-use borrow.Author.Rules.{rules}
 use Rattle.midambles.proofs.midamble.Goals as goal
 
 pub returns-then-n-ne0 : goal.returns-then-n-ne0

@@ -2,9 +2,7 @@
 -- Assumes nothing.
 use native.Mathlib.Omega.{arith}
 use Rattle.codes.proofs.Numbers.{length_high, shift_low}
-use Rattle.midambles.proofs.Passed.{Passed}
 use Rattle.midambles.proofs.Answers.{chip_refused, chip_passed, chip_inside, chip_answered}
-use borrow.Author.Rules.{rules}
 use Rattle.midambles.proofs.midamble_chip.Goals as goal
 
 pub returns-then-n-ne0 : goal.returns-then-n-ne0

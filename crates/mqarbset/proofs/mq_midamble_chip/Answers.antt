@@ -1,6 +1,5 @@
 -- `mqarbset::mq_midamble_chip` meets its promise: the call's answer, turned into the struct.
 -- Assumes nothing.
-use borrow.Author.Rules.{rules}
 use Rattle.mqarbset_answers.specs.Answers.{answer_as_c}
 use Rattle.mqarbset.proofs.Turned.{turned}
 use Rattle.mqarbset.proofs.mq_midamble_chip.Goals as goal

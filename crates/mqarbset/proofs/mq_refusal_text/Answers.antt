@@ -1,6 +1,5 @@
 -- `mqarbset::mq_refusal_text` meets its promise: the call's answer, turned into the struct.
 -- Assumes nothing.
-use borrow.Author.Rules.{rules}
 use Rattle.mqarbset.proofs.Turned.{turned_leaving}
 use Rattle.mqarbset.proofs.mq_refusal_text.Goals as goal
 

@@ -1,7 +1,6 @@
 -- `mqarbset_answers::midamble_as_c` meets its promise, case by case.
 -- Assumes nothing.
 use mathlib.Core.Path.{sym, ap}
-use borrow.Author.Rules.{rules}
 use Rattle.midambles.specs.declared.MidambleAnswer.{MidambleAnswer}
 use Rattle.midambles.specs.Calls.{said_midamble}
 use Rattle.mqarbset_answers.specs.Answers.{answer_as_c}

@@ -1,7 +1,6 @@
 -- `mqarbset_answers::words_as_c` meets its promise, case by case.
 -- Assumes nothing.
 use mathlib.Core.Path.{sym, ap}
-use borrow.Author.Rules.{rules}
 use Rattle.refusal_words.specs.declared.WordsAnswer.{WordsAnswer}
 use Rattle.refusal_words.specs.Words.{said_words}
 use Rattle.mqarbset_answers.specs.Answers.{answer_as_c}

@@ -1,6 +1,5 @@
 -- `mqarbset_book::handed_back` meets its promise: refused, or made.
 -- Assumes nothing.
-use borrow.Author.Rules.{rules}
 use Rattle.mqarbset_book.proofs.Handed.{back_refused, back_made}
 use Rattle.mqarbset_book.proofs.handed_back.Goals as goal
 

@@ -1,11 +1,9 @@
 -- `mqarbset_list::list` meets its promise: short memory, refused, or the seat's bookings written.
 -- Assumes nothing.
-use mathlib.Core.Path.{◌≡◌, ap, ◌∙◌}
+use mathlib.Core.Path.{ap, ◌∙◌}
 use native.Mathlib.Omega.{arith}
-use borrow.Author.Rules.{rules}
 use Rattle.classbook.specs.declared.Book.{Book}
 use Rattle.classbook.specs.Calls.{list_answer}
-use Rattle.mqarbset_book.specs.Mirror.{read_book}
 use Rattle.mqarbset_answers.specs.Answers.{answer_as_c, outcome_as_c}
 use Rattle.mqarbset_list.proofs.Listed.{list_short, list_refused, list_few, list_given}
 use Rattle.mqarbset_list.proofs.list.Goals as goal

@@ -2,12 +2,11 @@
 -- Assumes nothing.
 use mathlib.Core.Path.{◌≡◌, refl, ap, ◌∙◌}
 use mathlib.Core.List.{◌++◌}
-use Prim.Native.Nat.{ℕ, ◌*◌, ◌-◌, ◌≤◌}
+use Prim.Native.Nat.{ℕ, ◌*◌}
 use native.Mathlib.Nat.{le_antisymm}
 use native.Mathlib.Omega.{arith}
 use lib.ListN.{length, take, drop}
 use lib.Seq.{length-paste}
-use borrow.Author.Rules.{rules}
 use Rattle.mqarbset_list.specs.Records.{record_of, records_of}
 use Rattle.mqarbset_list.proofs.Listed.{records_turn}
 use Rattle.mqarbset_list.proofs.put_all.Goals as goal

@@ -1,6 +1,5 @@
 -- `mqarbset_list::record_of` meets its promise: byte by byte.
 -- Assumes nothing.
-use borrow.Author.Rules.{rules}
 use Rattle.mqarbset_book.proofs.Flags.{down_byte}
 use Rattle.mqarbset_list.specs.Records.{record_of}
 use Rattle.mqarbset_list.proofs.record_of.Goals as goal

@@ -1,13 +1,12 @@
 -- `paging::indicator` meets its contract: its first refusal, a lemma for each of its two answers, and the products are small.
 -- Assumes nothing.
-use mathlib.Core.Path.{◌≡◌, sym, ap, ◌∙◌}
+use mathlib.Core.Path.{◌≡◌, sym, ◌∙◌}
 use mathlib.Core.Bool.{Bool}
 use mathlib.Core.List.{[], ◌∷◌}
 use Prim.Native.Nat.{ℕ, ◌+◌, ◌*◌, ◌/◌, ◌%◌, ◌^◌, ◌<◌, ◌≤◌}
 use native.Mathlib.Nat.{mul-le-mul, mod-lt, div-le_self}
 use native.Mathlib.Omega.{arith}
 use lib.Dec.{leb}
-use borrow.Author.Rules.{rules}
 use Rattle.refusals.specs.Refusals.{first_of}
 use Rattle.refusals.specs.Inside.{or_refused, row_by_row}
 use Rattle.refusals.proofs.First.{append_rows, append_front, refused_by, answered_by}

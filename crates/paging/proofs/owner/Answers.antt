@@ -5,14 +5,12 @@ use mathlib.Core.List.{[], ◌∷◌}
 use Prim.Native.Nat.{ℕ, ◌≤◌}
 use native.Mathlib.Omega.{arith}
 use lib.Dec.{leb}
-use borrow.Author.Rules.{rules}
 use Rattle.refusals.specs.Refusals.{answered, first_of}
 use Rattle.refusals.specs.Inside.{or_refused}
 use Rattle.refusals.proofs.First.{append_row, append_front, refused_by, answered_by}
 use Rattle.conditions.specs.Conditions.{bad_bit}
 use Rattle.tables.specs.Tables.{pich_refusals}
 use Rattle.paging_bits.specs.Bits.{bits_in}
-use Rattle.paging_bits.specs.Inside.{Fits}
 use Rattle.paging.specs.declared.OwnerAnswer.TheVariants.{Refused}
 use Rattle.paging.specs.Paging.{half_of, Owner, owner_at}
 use Rattle.paging.specs.Calls.{owner_refusals, said_owner, owner_answer}

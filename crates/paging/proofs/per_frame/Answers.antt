@@ -3,7 +3,6 @@
 use mathlib.Core.Path.{refl, sym, ap, ◌∙◌}
 use Prim.Native.Nat.{ℕ, ◌/◌}
 use native.Mathlib.Nat.{div-zero}
-use borrow.Author.Rules.{rules}
 use Rattle.paging.proofs.per_frame.Goals as goal
 
 pub returns-then-length-eq0 : goal.returns-then-length-eq0

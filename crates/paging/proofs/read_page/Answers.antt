@@ -1,18 +1,10 @@
 -- `paging::read_page` meets its contract: by the law of the calls on one frame's lent bytes.
 -- Assumes nothing.
-use mathlib.Core.Path.{◌≡◌}
-use mathlib.Core.Bool.{◌||◌}
 use mathlib.Core.List.{List}
 use Prim.Native.Nat.{ℕ}
 use native.Mathlib.Omega.{arith}
-use lib.Dec.{ltb}
-use lib.ListN.{length}
-use borrow.Author.Rules.{rules}
-use Rattle.refusals.specs.Refusals.{first_of}
-use Rattle.refusals.specs.Inside.{or_refused}
-use Rattle.paging_bits.specs.Bits.{bits_in, per_frame, readings_of}
-use Rattle.paging.specs.Paging.{half_of}
-use Rattle.paging.specs.Calls.{frame_refusals, said_read_page, read_page_outcome}
+use Rattle.paging_bits.specs.Bits.{bits_in, readings_of}
+use Rattle.paging.specs.Calls.{said_read_page, read_page_outcome}
 use Rattle.paging.proofs.Passed.{half_high}
 use Rattle.paging.proofs.Lent.{lent_first, lent_passed, lent_refused, lent_done}
 use Rattle.paging.proofs.read_page.Goals as goal

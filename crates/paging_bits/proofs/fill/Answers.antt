@@ -1,7 +1,6 @@
 -- `paging_bits::fill` meets its contract: the first half, the reserved four, the first half once more, each put in behind the other.
 -- Assumes nothing.
 use native.Mathlib.Omega.{arith}
-use borrow.Author.Rules.{rules}
 use Rattle.paging_bits.proofs.Runs.{burst_put}
 use Rattle.paging_bits.proofs.fill.Goals as goal
 

@@ -1,14 +1,8 @@
 -- `paging_bits::ones` meets its contract: the count so far is the definition's for both runs, and at most the number of bits passed.
 -- Assumes nothing.
-use mathlib.Core.Path.{◌≡◌, ap, ◌∙◌}
-use mathlib.Core.List.{List}
-use Prim.Native.Nat.{ℕ, ◌+◌, ◌-◌, ◌≤◌}
-use native.Mathlib.Nat.{le_antisymm}
-use native.Mathlib.Omega.{arith}
-use lib.ListN.{get_or}
-use borrow.Author.Rules.{rules}
-use Rattle.paging_bits.specs.Bits.{as_bit, ones_from}
-use Rattle.paging_bits.proofs.Counted.{as_bit_most, ones_none, ones_turn, ones_most}
+use mathlib.Core.Path.{◌≡◌}
+use Prim.Native.Nat.{◌+◌, ◌-◌, ◌≤◌}
+use Rattle.paging_bits.specs.Bits.{ones_from}
 use Rattle.paging_bits.proofs.ones.Given as goal
 
 -- `paging_bits::ones` meets its contract: the count so far is the definition's for both runs, and at most the number of bits passed.

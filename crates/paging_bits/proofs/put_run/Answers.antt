@@ -1,11 +1,10 @@
 -- `paging_bits::put_run` meets its contract: one bit a turn, from the front.
 -- Assumes nothing.
-use mathlib.Core.Path.{◌≡◌, refl, ap, ◌∙◌}
-use Prim.Native.Nat.{ℕ, ◌-◌, ◌≤◌}
+use mathlib.Core.Path.{refl, ap, ◌∙◌}
+use Prim.Native.Nat.{ℕ}
 use native.Mathlib.Nat.{le_antisymm}
 use native.Mathlib.Omega.{arith}
-use lib.ListN.{length, replicate, length-set}
-use borrow.Author.Rules.{rules}
+use lib.ListN.{replicate, length-set}
 use Rattle.paging_bits.specs.Inside.{put_at}
 use Rattle.paging_bits.proofs.Put.{put_none, put_turn}
 use Rattle.paging_bits.proofs.put_run.Goals as goal

@@ -1,13 +1,9 @@
 -- `paging_bits::put_run` meets its contract: one bit a turn, from the front.
 -- Assumes nothing.
-use mathlib.Core.Path.{◌≡◌, refl, ap, ◌∙◌}
-use Prim.Native.Nat.{ℕ, ◌-◌, ◌≤◌}
-use native.Mathlib.Nat.{le_antisymm}
-use native.Mathlib.Omega.{arith}
-use lib.ListN.{length, replicate, length-set}
-use borrow.Author.Rules.{rules}
+use mathlib.Core.Path.{◌≡◌}
+use Prim.Native.Nat.{◌-◌, ◌≤◌}
+use lib.ListN.{length, replicate}
 use Rattle.paging_bits.specs.Inside.{put_at}
-use Rattle.paging_bits.proofs.Put.{put_none, put_turn}
 use Rattle.paging_bits.proofs.put_run.Given as goal
 
 -- `paging_bits::put_run` meets its contract: one bit a turn, from the front.

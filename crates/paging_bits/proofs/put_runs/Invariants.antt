@@ -1,14 +1,10 @@
 -- `paging_bits::put_runs` meets its contract: one run a turn, from the front.
 -- Assumes nothing.
-use mathlib.Core.Path.{◌≡◌, refl, ap, ◌∙◌}
-use Prim.Native.Nat.{ℕ, ◌+◌, ◌-◌, ◌*◌, ◌≤◌}
-use native.Mathlib.Nat.{le_antisymm}
-use native.Mathlib.Omega.{arith}
+use mathlib.Core.Path.{◌≡◌}
+use Prim.Native.Nat.{◌+◌, ◌-◌, ◌*◌, ◌≤◌}
 use lib.ListN.{length}
-use borrow.Author.Rules.{rules}
 use Rattle.paging_bits.specs.Bits.{runs_of}
 use Rattle.paging_bits.specs.Inside.{put_at}
-use Rattle.paging_bits.proofs.Runs.{run_room, run_next, runs_none, runs_turn}
 use Rattle.paging_bits.proofs.put_runs.Given as goal
 
 -- `paging_bits::put_runs` meets its contract: one run a turn, from the front.

@@ -1,13 +1,9 @@
 -- `paging_bits::repeat` meets its contract: one bit a turn, from the front.
 -- Assumes nothing.
-use mathlib.Core.Path.{◌≡◌, refl, ap, ◌∙◌}
-use Prim.Native.Nat.{ℕ, ◌-◌, ◌≤◌}
-use native.Mathlib.Nat.{le_antisymm}
-use native.Mathlib.Omega.{arith}
-use lib.ListN.{length, take, length-set}
-use borrow.Author.Rules.{rules}
+use mathlib.Core.Path.{◌≡◌}
+use Prim.Native.Nat.{◌-◌, ◌≤◌}
+use lib.ListN.{length, take}
 use Rattle.paging_bits.specs.Inside.{put_at}
-use Rattle.paging_bits.proofs.Put.{put_none, repeat_turn}
 use Rattle.paging_bits.proofs.repeat.Given as goal
 
 -- `paging_bits::repeat` meets its contract: one bit a turn, from the front.

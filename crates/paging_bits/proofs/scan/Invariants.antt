@@ -1,16 +1,11 @@
 -- `paging_bits::scan` meets its contract: one reading a turn, from the front; the runs of q begin at p in each half.
 -- Assumes nothing.
-use mathlib.Core.Path.{◌≡◌, refl, ap, ◌∙◌}
-use mathlib.Core.List.{List, ◌++◌}
-use Prim.Native.Nat.{ℕ, ◌+◌, ◌-◌, ◌*◌, ◌≤◌}
-use native.Mathlib.Nat.{le_antisymm}
-use native.Mathlib.Omega.{arith}
-use lib.ListN.{length, drop, length-set}
-use borrow.Author.Rules.{rules}
+use mathlib.Core.Path.{◌≡◌}
+use mathlib.Core.List.{◌++◌}
+use Prim.Native.Nat.{ℕ, ◌-◌, ◌*◌, ◌≤◌}
+use lib.ListN.{length, drop}
 use Rattle.laws.specs.Runs.{run}
-use Rattle.laws.proofs.Runs.{run_none}
-use Rattle.paging_bits.specs.Bits.{reading_of, readings_of}
-use Rattle.paging_bits.proofs.Counted.{run_ends, next_run, counted, row_turn}
+use Rattle.paging_bits.specs.Bits.{reading_of}
 use Rattle.paging_bits.proofs.scan.Given as goal
 
 -- `paging_bits::scan` meets its contract: one reading a turn, from the front; the runs of q begin at p in each half.

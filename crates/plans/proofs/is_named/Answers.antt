@@ -2,7 +2,6 @@
 -- Assumes nothing.
 use mathlib.Core.Path.{refl}
 use Rattle.seats.specs.Seats.{names}
-use borrow.Author.Rules.{rules}
 use Rattle.plans.proofs.is_named.Goals as goal
 
 pub returns : goal.returns

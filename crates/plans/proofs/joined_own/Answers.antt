@@ -1,7 +1,6 @@
 -- `plans::joined_own` meets its contract: by the two timeslots.
 -- Assumes nothing.
 use borrow.Author.Tests.{eq-eqb, ne_eqb}
-use borrow.Author.Rules.{rules}
 use Rattle.plans.proofs.joined_own.Goals as goal
 
 pub returns-then-x-timeslot : goal.returns-then-x-timeslot

@@ -1,14 +1,9 @@
 -- `plans::place_named` meets its contract: none of those passed was named.
 -- Assumes nothing.
-use mathlib.Core.Path.{◌≡◌, sym, ◌∙◌}
+use mathlib.Core.Path.{◌≡◌}
 use Prim.Native.Nat.{◌+◌, ◌-◌, ◌≤◌}
-use native.Mathlib.Nat.{zero-add}
-use native.Mathlib.Omega.{arith}
-use borrow.Author.Rules.{rules}
 use lib.ListN.{take, drop}
-use Rattle.laws.proofs.Rows.{left_one, left_none}
 use Rattle.plans.specs.Inside.{place_named}
-use Rattle.plans.proofs.Named.{named_here, named_later, named_none, first_or_none}
 use Rattle.plans.proofs.place_named.Given as goal
 
 abbrev pub invariant-loop-i : goal.invariant-loop-i

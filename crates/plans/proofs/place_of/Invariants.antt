@@ -1,13 +1,9 @@
 -- `plans::place_of` meets its contract: what was counted and what is left to count make the rank.
 -- Assumes nothing.
-use mathlib.Core.Path.{◌≡◌, ap, ◌∙◌}
+use mathlib.Core.Path.{◌≡◌}
 use Prim.Native.Nat.{◌+◌, ◌-◌, ◌≤◌}
-use native.Mathlib.Omega.{arith}
-use borrow.Author.Rules.{rules}
 use lib.ListN.{take, drop}
-use native.Mathlib.Nat.{zero-add}
 use Rattle.laws.specs.Lists.{one, total}
-use Rattle.laws.proofs.Rows.{turn_sum, ended_sum}
 use Rattle.bookings.specs.Bookings.{comes}
 use Rattle.seats.specs.Seats.{rank}
 use Rattle.plans.proofs.place_of.Given as goal

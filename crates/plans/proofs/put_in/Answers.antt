@@ -1,10 +1,8 @@
 -- `plans::put_in` meets its contract: what is held goes in at the place reached, and that makes the row wanted.
 -- Assumes nothing.
 use mathlib.Core.Path.{◌≡◌, refl, ap, ◌∙◌, sym}
-use Prim.Native.Nat.{◌-◌, ◌≤◌}
 use native.Mathlib.Omega.{arith}
-use borrow.Author.Rules.{rules}
-use lib.ListN.{length, take, length-set}
+use lib.ListN.{take, length-set}
 use Rattle.laws.specs.Lists.{insert_at}
 use Rattle.laws.proofs.Rows.{carry, carried}
 use Rattle.plans.proofs.put_in.Goals as goal

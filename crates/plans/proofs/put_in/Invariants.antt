@@ -1,12 +1,9 @@
 -- `plans::put_in` meets its contract: what is held goes in at the place reached, and that makes the row wanted.
 -- Assumes nothing.
-use mathlib.Core.Path.{◌≡◌, refl, ap, ◌∙◌, sym}
+use mathlib.Core.Path.{◌≡◌}
 use Prim.Native.Nat.{◌-◌, ◌≤◌}
-use native.Mathlib.Omega.{arith}
-use borrow.Author.Rules.{rules}
-use lib.ListN.{length, take, length-set}
+use lib.ListN.{length}
 use Rattle.laws.specs.Lists.{insert_at}
-use Rattle.laws.proofs.Rows.{carry, carried}
 use Rattle.plans.proofs.put_in.Given as goal
 
 abbrev pub invariant-loop-j : goal.invariant-loop-j

@@ -1,9 +1,8 @@
 -- `plans::slot_of` meets its contract: what was summed is what those passed say.
 -- Assumes nothing.
 use mathlib.Core.Path.{◌≡◌, ap, ◌∙◌}
-use Prim.Native.Nat.{ℕ, ◌-◌, ◌≤◌, ◌<◌}
+use Prim.Native.Nat.{ℕ, ◌≤◌, ◌<◌}
 use native.Mathlib.Omega.{arith}
-use borrow.Author.Rules.{rules}
 use lib.ListN.{length, take}
 use Rattle.slots.specs.Slots.{slot_of}
 use Rattle.seats.specs.Seats.{blank}

@@ -1,14 +1,10 @@
 -- `plans::take_out` meets its contract: what is held stands at the place reached, and that makes the row with the blank behind it.
 -- Assumes nothing.
-use mathlib.Core.Path.{◌≡◌, ap, ◌∙◌, sym}
+use mathlib.Core.Path.{◌≡◌}
 use mathlib.Core.List.{◌++◌, ◌∷◌, []}
-use Prim.Native.Nat.{ℕ, ◌+◌, ◌-◌, ◌≤◌}
-use native.Mathlib.Omega.{arith}
-use borrow.Author.Rules.{rules}
-use lib.ListN.{length, length-set, drop_of_length-le}
-use lib.Seq.{take_all}
-use Rattle.laws.specs.Lists.{insert_at, remove_at}
-use Rattle.laws.proofs.Rows.{carry_down, out_again}
+use Prim.Native.Nat.{◌≤◌}
+use lib.ListN.{length}
+use Rattle.laws.specs.Lists.{insert_at}
 use Rattle.plans.proofs.take_out.Given as goal
 
 abbrev pub invariant-loop-j : goal.invariant-loop-j

@@ -10,7 +10,6 @@ use Rattle.bookings.specs.declared.Booking.{Booking}
 use Rattle.slots.specs.Inside.{no_slot}
 use Rattle.plans.proofs.Carried.{rank_high, carried_in}
 use Rattle.plans.proofs.Plans.{put_in_plan, count_kept}
-use borrow.Author.Rules.{rules}
 use Rattle.plans.proofs.with_booking.Goals as goal
 
 high : (x : Booking) → bad_timeslot x.timeslot ≡ false → x.timeslot ≤ 14

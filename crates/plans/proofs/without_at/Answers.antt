@@ -11,7 +11,6 @@ use Rattle.slots.specs.Slots.{slot_of}
 use Rattle.seats.specs.Seats.{blank}
 use Rattle.plans.proofs.Carried.{carried_out}
 use Rattle.plans.proofs.Plans.{taken_out_at, gone_low, left_told, left_good}
-use borrow.Author.Rules.{rules}
 use Rattle.plans.proofs.without_at.Goals as goal
 
 -- the row that was made, with a blank place behind

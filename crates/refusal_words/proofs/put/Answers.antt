@@ -1,6 +1,5 @@
 -- `refusal_words::put` meets its promise: short memory, or the text copied.
 -- Assumes nothing.
-use borrow.Author.Rules.{rules}
 use Rattle.refusal_words.specs.Words.{said_words}
 use Rattle.refusal_words.proofs.Putting.{put_short, put_written}
 use Rattle.refusal_words.proofs.put.Goals as goal

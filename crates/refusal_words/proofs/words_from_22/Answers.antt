@@ -1,6 +1,5 @@
 -- `refusal_words::words_from_22` meets its promise: the texts of 22 to 24 are those of the definition, by computation, and above them there is none.
 -- Assumes nothing.
-use borrow.Author.Rules.{rules}
 use Rattle.refusal_words.specs.Words.{words_of}
 use Rattle.refusal_words.proofs.Putting.{by_number, beyond, no_words}
 use Rattle.refusal_words.proofs.words_from_22.Goals as goal

@@ -1,6 +1,5 @@
 -- `refusal_words::words_to_14` meets its promise, number by number: the text of each arm is that of the definition, by computation.
 -- Assumes nothing.
-use borrow.Author.Rules.{rules}
 use Rattle.refusal_words.specs.Words.{words_of}
 use Rattle.refusal_words.proofs.Putting.{by_number, last_one}
 use Rattle.refusal_words.proofs.words_to_14.Goals as goal

@@ -1,7 +1,6 @@
 -- `refusal_words::words_to_7` meets its promise, number by number: the text of each arm is that of the definition, by computation.
 -- Assumes nothing.
 use native.Mathlib.Omega.{arith}
-use borrow.Author.Rules.{rules}
 use Rattle.refusal_words.specs.Words.{words_of}
 use Rattle.refusal_words.proofs.Putting.{by_number, beyond, above, no_words}
 use Rattle.refusal_words.proofs.words_to_7.Goals as goal

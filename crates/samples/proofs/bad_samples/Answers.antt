@@ -1,8 +1,7 @@
 -- `samples::bad_samples` meets its contract: at each turn `good` says whether all floats before i are samples. Assumes nothing.
-use borrow.Author.Rules.{rules}
 use mathlib.Core.Path.{◌≡◌, ap, ◌∙◌}
 use mathlib.Core.Bool.{not}
-use Prim.Native.Nat.{ℕ, ◌-◌, ◌≤◌}
+use Prim.Native.Nat.{ℕ}
 use native.Mathlib.Omega.{arith}
 use lib.ListN.{take}
 use Rattle.samples.specs.Samples.{bad_samples, is_sample}

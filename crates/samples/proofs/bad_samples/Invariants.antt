@@ -1,13 +1,9 @@
 -- `samples::bad_samples` meets its contract: at each turn `good` says whether all floats before i are samples. Assumes nothing.
-use borrow.Author.Rules.{rules}
-use mathlib.Core.Path.{◌≡◌, ap, ◌∙◌}
-use mathlib.Core.Bool.{not}
-use Prim.Native.Nat.{ℕ, ◌-◌, ◌≤◌}
-use native.Mathlib.Omega.{arith}
+use mathlib.Core.Path.{◌≡◌}
+use Prim.Native.Nat.{◌-◌, ◌≤◌}
 use lib.ListN.{take}
-use Rattle.samples.specs.Samples.{bad_samples, is_sample}
+use Rattle.samples.specs.Samples.{is_sample}
 use Rattle.laws.specs.Lists.{every}
-use Rattle.samples.proofs.Front.{none_yet, one_more}
 use Rattle.samples.proofs.bad_samples.Given as goal
 
 abbrev pub invariant-loop-i : goal.invariant-loop-i

@@ -8,7 +8,6 @@ use Rattle.bookings.specs.declared.Booking.{Booking}
 use Rattle.slots.specs.declared.Slot.{Slot}
 use Rattle.seats.specs.Seats.{blank, closed}
 use Rattle.seats.proofs.Free.{all_free}
-use borrow.Author.Rules.{rules}
 use Rattle.seats.proofs.closed_seat.Goals as goal
 
 pub returns : goal.returns

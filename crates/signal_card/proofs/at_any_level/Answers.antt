@@ -1,6 +1,5 @@
 -- `signal_card::at_any_level` meets its promise: each `return` is a law of Answers, handed what the callees ensure and how the test went.
 -- Assumes nothing.
-use borrow.Author.Rules.{rules}
 use Rattle.signal_card.proofs.Parts.{taken_real, taken_imaginary}
 use Rattle.signal_card.proofs.Answers.{level_refused, level_good, level_answered}
 use Rattle.signal_card.proofs.at_any_level.Goals as goal

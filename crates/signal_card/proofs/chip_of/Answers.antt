@@ -1,7 +1,6 @@
 -- `signal_card::chip_of` meets its promise: it reads the two places of the chip.
 -- Assumes nothing.
 use mathlib.Core.Path.{refl}
-use borrow.Author.Rules.{rules}
 use Rattle.signal_card.specs.Inside.{chip_in}
 use Rattle.signal_card.proofs.chip_of.Goals as goal
 

@@ -1,15 +1,10 @@
 -- `signal_card::fill` meets its promise: after i turns the first 2 i places hold the floats of the first i chips, and the rest is as it was.
 -- Assumes nothing.
-use mathlib.Core.Path.{◌≡◌, refl, ap, ◌∙◌}
+use mathlib.Core.Path.{◌≡◌}
 use mathlib.Core.List.{[], ◌∷◌, ◌++◌}
-use Prim.Native.Nat.{ℕ, ◌+◌, ◌-◌, ◌*◌, ◌≤◌}
-use native.Mathlib.Nat.{le_antisymm}
-use native.Mathlib.Omega.{arith}
-use lib.ListN.{length, take, drop, set, length-set}
-use borrow.Author.Rules.{rules}
+use Prim.Native.Nat.{◌-◌, ◌*◌, ◌≤◌}
+use lib.ListN.{length, take, drop}
 use Rattle.signal_card.specs.SignalCard.{floats_of}
-use Rattle.signal_card.proofs.Parts.{taken_real, taken_imaginary}
-use Rattle.signal_card.proofs.Rows.{floats_none, floats_turn}
 use Rattle.signal_card.proofs.fill.Given as goal
 
 abbrev pub invariant-loop-i : goal.invariant-loop-i

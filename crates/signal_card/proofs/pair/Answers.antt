@@ -1,7 +1,6 @@
 -- `signal_card::pair` meets its promise: a chip that is refused is refused here, and of one that is not the level decides.
 -- Assumes nothing.
 use mathlib.Core.Path.{sym, ap, ◌∙◌}
-use borrow.Author.Rules.{rules}
 use Rattle.midambles.specs.Calls.{said_chip}
 use Rattle.signal_card.proofs.Answers.{pair_refused, power_below, pair_answered}
 use Rattle.signal_card.proofs.pair.Goals as goal

@@ -1,14 +1,10 @@
 -- `signal_card::pairs` meets its promise: each `return` is a law of Answers, handed what the callees ensure and how the test went.
 -- Assumes nothing.
-use mathlib.Core.Path.{◌≡◌, ap}
-use Prim.Native.Nat.{◌*◌, ◌≤◌}
+use mathlib.Core.Path.{ap}
 use native.Mathlib.Omega.{arith}
 use lib.ListN.{length}
-use borrow.Author.Rules.{rules}
 use Rattle.codes.specs.declared.Code.{Code}
-use Rattle.codes.specs.Codes.{code_of}
 use Rattle.codes.proofs.Numbers.{length_high, shift_low}
-use Rattle.midambles.proofs.Passed.{Passed}
 use Rattle.signal_card.proofs.Answers.{pairs_refused, pairs_passed, pairs_room, pairs_level, pairs_written, filled_below, run_room}
 use Rattle.signal_card.proofs.pairs.Goals as goal
 

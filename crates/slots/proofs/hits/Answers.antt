@@ -8,7 +8,6 @@ use lib.Dec.{eqb}
 use Rattle.bookings.specs.declared.Booking.{Booking}
 use Rattle.slots.specs.declared.Slot.{Slot}
 use Rattle.slots.specs.Inside.{mask, turns_from, hits_with}
-use borrow.Author.Rules.{rules}
 use Rattle.slots.proofs.hits.Goals as goal
 
 as-defined : (s : Slot) (x : Booking) (m : ℕ) (over turn : Bool) → m ≡ mask x → over ≡ not (eqb (bit_and s.leaves m) 0) → turn ≡ turns_from s.way x.direction

@@ -9,7 +9,6 @@ use Rattle.bookings.specs.declared.Booking.{Booking}
 use Rattle.slots.specs.declared.Way.{Way}
 use Rattle.slots.specs.declared.Slot.{Slot}
 use Rattle.slots.specs.Inside.{mask, way_with, joined_with}
-use borrow.Author.Rules.{rules}
 use Rattle.slots.proofs.joined.Goals as goal
 
 as-defined : (s : Slot) (x : Booking) (m : ℕ) (way : Way) → m ≡ mask x → way ≡ way_with s.way x.direction

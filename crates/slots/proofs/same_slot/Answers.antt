@@ -6,7 +6,6 @@ use Prim.Native.Nat.{ℕ}
 use lib.Dec.{eqb}
 use Rattle.slots.specs.declared.Slot.{Slot}
 use Rattle.slots.specs.Slots.{way_number, same_slot}
-use borrow.Author.Rules.{rules}
 use Rattle.slots.proofs.same_slot.Goals as goal
 
 as-defined : (a b : Slot) (m n : ℕ) → m ≡ way_number a.way → n ≡ way_number b.way

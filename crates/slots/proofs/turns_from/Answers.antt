@@ -1,7 +1,6 @@
 -- `slots::turns_from` meets its contract: by the three ways.
 -- Assumes nothing.
 use Rattle.slots.specs.Inside.{turns_from}
-use borrow.Author.Rules.{rules}
 use Rattle.slots.proofs.turns_from.Goals as goal
 
 pub returns-in-Neither : goal.returns-in-Neither

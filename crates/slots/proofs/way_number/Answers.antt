@@ -1,7 +1,6 @@
 -- `slots::way_number` meets its contract: by the three ways.
 -- Assumes nothing.
 use Rattle.slots.specs.Slots.{way_number}
-use borrow.Author.Rules.{rules}
 use Rattle.slots.proofs.way_number.Goals as goal
 
 pub returns-in-Up : goal.returns-in-Up

@@ -7,7 +7,6 @@ use Rattle.conditions.specs.Conditions.{is_down}
 use Rattle.slots.specs.declared.Way.{Way}
 use Rattle.slots.specs.declared.Way.TheVariants.{Neither, Up, Down}
 use Rattle.slots.specs.Inside.{way_with}
-use borrow.Author.Rules.{rules}
 use Rattle.slots.proofs.way_with.Goals as goal
 
 down : (w : Way) (d : Direction) → is_down d ≡ true → Down ≡ way_with w d

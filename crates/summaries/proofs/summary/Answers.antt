@@ -10,7 +10,6 @@ use Rattle.classbook.specs.declared.SeatAnswer.{SeatAnswer}
 use Rattle.classbook.specs.Calls.{seat_answer}
 use Rattle.summaries.specs.Summaries.{said_summary}
 use Rattle.summaries.proofs.Answered.{refused_5, refused_by_seat, summed}
-use borrow.Author.Rules.{rules}
 use Rattle.summaries.proofs.summary.Goals as goal
 
 below : (t : ℕ) → bad_timeslot t ≡ false → t < 15

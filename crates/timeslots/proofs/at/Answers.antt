@@ -1,8 +1,7 @@
 -- `timeslots::at` meets its contract: refused by the table, or what lies there.
 -- Assumes nothing.
-use mathlib.Core.Path.{◌≡◌, sym, ◌∙◌}
+use mathlib.Core.Path.{sym, ◌∙◌}
 use native.Mathlib.Omega.{arith}
-use borrow.Author.Rules.{rules}
 use Rattle.timeslots.specs.Calls.{said_at}
 use Rattle.timeslots.proofs.Answers.{at_refused, at_beyond, at_answered}
 use Rattle.timeslots.proofs.at.Goals as goal

@@ -1,7 +1,6 @@
 -- `timeslots::parts` meets its contract: refused by the table, or the parts as they were placed.
 -- Assumes nothing.
-use mathlib.Core.Path.{◌≡◌, sym, ap, ◌∙◌}
-use borrow.Author.Rules.{rules}
+use mathlib.Core.Path.{sym, ap, ◌∙◌}
 use Rattle.refusals.specs.Refusals.{answered}
 use Rattle.timeslots.specs.Calls.{said_parts}
 use Rattle.timeslots.proofs.Answers.{parts_refused, parts_answered}

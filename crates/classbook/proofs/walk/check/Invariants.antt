@@ -1,19 +1,12 @@
 -- `classbook::walk::check` meets its contract: the seats passed meet their conditions, what was summed and what is left to sum make the common room, and the seat is the one that is named.
 -- Assumes nothing.
-use mathlib.Core.Path.{◌≡◌, refl, sym, ap, ◌∙◌}
-use mathlib.Core.Bool.{Bool, ◌&&◌}
-use Prim.Native.Nat.{ℕ, ◌+◌, ◌*◌, ◌-◌, ◌≤◌}
-use native.Mathlib.Nat.{zero-add}
-use native.Mathlib.Omega.{arith}
-use borrow.Author.Rules.{rules}
-use lib.Dec.{leb}
-use lib.ListN.{length, take, drop, get_or-eq_default}
-use lib.Seq.{take_all}
+use mathlib.Core.Path.{◌≡◌}
+use mathlib.Core.Bool.{◌&&◌}
+use Prim.Native.Nat.{◌+◌, ◌*◌, ◌-◌, ◌≤◌}
+use lib.ListN.{take, drop}
 use Rattle.laws.specs.Lists.{every, total}
-use Rattle.laws.proofs.Rows.{turn, ended, turn_sum, ended_sum, get_d_any}
-use Rattle.seats.specs.Seats.{closed, seat_ok}
-use Rattle.classbook.specs.declared.Book.{Book}
-use Rattle.classbook.specs.Book.{beyond, common, book_ok, seat_of}
+use Rattle.seats.specs.Seats.{seat_ok}
+use Rattle.classbook.specs.Book.{beyond}
 use Rattle.classbook.proofs.walk.check.Given as goal
 
 abbrev pub invariant-loop-i : goal.invariant-loop-i

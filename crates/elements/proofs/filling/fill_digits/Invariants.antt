@@ -1,14 +1,9 @@
 -- `elements::filling::fill_digits` meets its contract: after each stretch the first places hold the elements of the digits that are done, and the rest is as it was.
 -- Assumes nothing.
-use mathlib.Core.Path.{◌≡◌, refl, ap, ◌∙◌}
-use Prim.Native.Nat.{ℕ, ◌+◌, ◌-◌, ◌*◌, ◌%◌, ◌<◌, ◌≤◌}
-use native.Mathlib.Nat.{le_antisymm, mod-lt}
-use native.Mathlib.Omega.{arith}
+use mathlib.Core.Path.{◌≡◌}
+use Prim.Native.Nat.{◌+◌, ◌-◌, ◌*◌, ◌%◌, ◌<◌, ◌≤◌}
 use lib.ListN.{length}
-use borrow.Author.Rules.{rules}
-use Rattle.laws.proofs.Runs.{run_none, run_fits, rest_length}
 use Rattle.elements.specs.Inside.{elements_after}
-use Rattle.elements.proofs.Steps.{stretch_turn, some_done, first_again}
 use Rattle.elements.proofs.filling.fill_digits.Given as goal
 
 abbrev pub invariant-loop-done : goal.invariant-loop-done

@@ -1,6 +1,5 @@
 -- `elements::filling::fill_from` meets its contract: the piece of a digit that was begun, whole digits, and the piece that is left, each behind the one before.
 -- Assumes nothing.
-use borrow.Author.Rules.{rules}
 use Rattle.elements.proofs.Steps.{whole_digits, last_piece, room_behind, piece_behind}
 use Rattle.elements.proofs.filling.fill_from.Goals as goal
 

@@ -1,15 +1,9 @@
 -- `elements::filling::fill_piece` meets its contract: after i turns the first i places hold elements by + 1 to by + i, and the rest is as it was.
 -- Assumes nothing.
-use mathlib.Core.Path.{◌≡◌, refl, sym, ap, ◌∙◌}
-use Prim.Native.Nat.{ℕ, ◌-◌, ◌≤◌}
-use native.Mathlib.Nat.{le_antisymm}
-use native.Mathlib.Omega.{arith}
-use lib.ListN.{length, length-set}
-use borrow.Author.Rules.{rules}
-use Rattle.laws.proofs.Runs.{run_none, run_turn}
+use mathlib.Core.Path.{◌≡◌}
+use Prim.Native.Nat.{◌-◌, ◌≤◌}
+use lib.ListN.{length}
 use Rattle.elements.specs.Inside.{elements_after}
-use Rattle.elements.proofs.Digits.{digit_low}
-use Rattle.elements.proofs.Steps.{piece_power}
 use Rattle.elements.proofs.filling.fill_piece.Given as goal
 
 abbrev pub invariant-loop-i : goal.invariant-loop-i

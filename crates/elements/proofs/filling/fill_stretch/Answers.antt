@@ -1,11 +1,10 @@
 -- `elements::filling::fill_stretch` meets its contract: after k turns the first 4k places hold the elements of k digits, and the rest is as it was.
 -- Assumes nothing.
 use mathlib.Core.Path.{◌≡◌, refl, ap, ◌∙◌}
-use Prim.Native.Nat.{ℕ, ◌-◌, ◌*◌, ◌≤◌}
+use Prim.Native.Nat.{ℕ, ◌*◌}
 use native.Mathlib.Nat.{le_antisymm}
 use native.Mathlib.Omega.{arith}
 use lib.ListN.{length}
-use borrow.Author.Rules.{rules}
 use Rattle.laws.proofs.Runs.{run_none, run_fits, rest_length}
 use Rattle.elements.specs.Inside.{elements_after}
 use Rattle.elements.proofs.Digits.{digit_low}

@@ -5,7 +5,6 @@ use mathlib.Core.List.{List, [], ◌++◌}
 use Prim.Native.Nat.{ℕ, ◌+◌, ◌<◌, ◌≤◌}
 use native.Mathlib.Omega.{arith}
 use lib.Dec.{lit<}
-use borrow.Author.Rules.{rules}
 use lib.ListN.{length, set, get_or, drop, length-set}
 use Rattle.laws.specs.Runs.{run}
 use Rattle.laws.proofs.Runs.{run_none, run_turn}

@@ -1,7 +1,6 @@
 -- `elements::reading::digit_at` meets its contract: one byte, one half of it.
 -- Assumes nothing.
 use mathlib.Core.Path.{sym}
-use borrow.Author.Rules.{rules}
 use Rattle.elements.proofs.Digits.{digits_at}
 use Rattle.elements.proofs.reading.digit_at.Goals as goal
 

@@ -5,7 +5,6 @@ use mathlib.Core.List.{List}
 use Prim.Native.Nat.{ℕ, ◌-◌, ◌*◌, ◌%◌, ◌<◌, ◌≤◌}
 use native.Mathlib.Omega.{arith}
 use lib.ListN.{length}
-use borrow.Author.Rules.{rules}
 use Rattle.code_text.specs.Rows.{bit_at}
 use Rattle.elements.specs.Elements.{turned}
 use Rattle.elements.specs.Inside.{digits_in, element_in}

@@ -7,7 +7,6 @@ use native.Mathlib.Omega.{arith}
 use lib.Dec.{eqb}
 use borrow.Author.Tests.{eqb-true, eqb-false}
 use Rattle.elements.specs.Elements.{turned}
-use borrow.Author.Rules.{rules}
 use Rattle.elements.proofs.reading.power_of.Goals as goal
 
 by_test : (z : Bool) (i bit : ℕ) → bit < 2 → eqb bit 1 ≡ z → (i + 2 * (1 - bit)) % 4 ≡ cond z (i % 4) ((i + 2) % 4)

@@ -3,7 +3,6 @@
 use mathlib.Core.Logic.{inl, inr}
 use mathlib.Core.Path.{refl}
 use native.Mathlib.Omega.{arith}
-use borrow.Author.Rules.{rules}
 use Rattle.lesson_words.proofs.numbers.grown.Goals as goal
 
 pub returns-then-v-gt4294967295 : goal.returns-then-v-gt4294967295

@@ -1,7 +1,6 @@
 -- `lesson_words::numbers::meant` meets its contract: the kind is tested as the definition tests it.
 -- Assumes nothing.
 use Rattle.lesson_words.proofs.Reading.{kind_number, kind_direction, kind_row}
-use borrow.Author.Rules.{rules}
 use Rattle.lesson_words.proofs.numbers.meant.Goals as goal
 
 pub returns-then-kind-eq110 : goal.returns-then-kind-eq110

@@ -2,7 +2,6 @@
 -- Assumes nothing.
 use mathlib.Core.Path.{refl}
 use Rattle.lesson_words.specs.Numbers.{nine_of}
-use borrow.Author.Rules.{rules}
 use Rattle.lesson_words.proofs.numbers.nine.Goals as goal
 
 pub returns : goal.returns

@@ -1,16 +1,11 @@
 -- `lesson_words::numbers::number` meets its contract. The invariant: what was passed are digits, and the digits that are left, read behind `value`, give the word's value, or both are too large.
 -- Assumes nothing.
-use mathlib.Core.Logic.{inl}
-use mathlib.Core.Path.{◌≡◌, refl, sym, ◌∙◌}
+use mathlib.Core.Path.{◌≡◌}
 use Prim.Native.Nat.{◌-◌, ◌≤◌}
-use native.Mathlib.Omega.{arith}
-use borrow.Author.Tests.{not-true, not-false}
 use lib.ListN.{length, drop}
 use Rattle.laws.specs.Lists.{every}
 use Rattle.lesson_words.specs.Numbers.{is_digit, value_from}
 use Rattle.lesson_words.specs.Inside.{Near}
-use Rattle.lesson_words.proofs.Digits.{near_on, near_end, every_on, every_off, every_end, not_none, not_digits, not_small, is_number, digit_low}
-use borrow.Author.Rules.{rules}
 use Rattle.lesson_words.proofs.numbers.number.Given as goal
 
 abbrev pub invariant-loop-i : goal.invariant-loop-i

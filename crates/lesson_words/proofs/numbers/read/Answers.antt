@@ -1,13 +1,9 @@
 -- `lesson_words::numbers::read` meets its contract: what was read is stored, and the rest is to be read.
 -- Assumes nothing.
-use mathlib.Core.Path.{◌≡◌, refl, ap, ◌∙◌}
-use mathlib.Core.Bool.{◌&&◌}
-use Prim.Native.Nat.{◌-◌, ◌≤◌}
+use mathlib.Core.Path.{refl, ap, ◌∙◌}
 use native.Mathlib.Omega.{arith}
-use lib.ListN.{length, drop, replicate}
-use Rattle.lesson_words.specs.Numbers.{fits, values_from, nine_of, values_of}
+use Rattle.lesson_words.specs.Numbers.{nine_of, values_of}
 use Rattle.lesson_words.proofs.Reading.{fits_on, values_on, fits_end, values_end}
-use borrow.Author.Rules.{rules}
 use Rattle.lesson_words.proofs.numbers.read.Goals as goal
 
 pub loop-i-init : goal.loop-i-init

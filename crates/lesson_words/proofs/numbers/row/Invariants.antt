@@ -1,15 +1,11 @@
 -- `lesson_words::numbers::row` meets its contract: what was passed are the digits 0 and 1.
 -- Assumes nothing.
-use mathlib.Core.Path.{◌≡◌, refl}
+use mathlib.Core.Path.{◌≡◌}
 use mathlib.Core.Bool.{◌&&◌}
 use Prim.Native.Nat.{◌-◌, ◌≤◌}
-use native.Mathlib.Omega.{arith}
 use lib.ListN.{length, drop}
 use Rattle.laws.specs.Lists.{every}
-use Rattle.lesson_words.specs.Numbers.{is_none, is_bit, is_row}
-use Rattle.lesson_words.proofs.Digits.{test_on, test_end}
-use Rattle.lesson_words.proofs.Reading.{is_row_lem}
-use borrow.Author.Rules.{rules}
+use Rattle.lesson_words.specs.Numbers.{is_bit, is_row}
 use Rattle.lesson_words.proofs.numbers.row.Given as goal
 
 abbrev pub invariant-loop-i : goal.invariant-loop-i

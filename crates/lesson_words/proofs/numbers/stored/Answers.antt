@@ -4,7 +4,6 @@ use mathlib.Core.Path.{◌≡◌, sym}
 use native.Mathlib.Omega.{arith}
 use lib.ListN.{length}
 use lib.Seq.{set_out}
-use borrow.Author.Rules.{rules}
 use Rattle.lesson_words.proofs.numbers.stored.Goals as goal
 
 pub returns-else-i-lt9 : goal.returns-else-i-lt9

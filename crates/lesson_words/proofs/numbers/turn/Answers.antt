@@ -3,7 +3,6 @@
 use mathlib.Core.Path.{sym, ◌∙◌}
 use Rattle.lesson_words.specs.Words.{is_text}
 use Rattle.lesson_words.proofs.Reading.{is_down, is_up}
-use borrow.Author.Rules.{rules}
 use Rattle.lesson_words.proofs.numbers.turn.Goals as goal
 
 pub returns-then-same : goal.returns-then-same

@@ -1,7 +1,6 @@
 -- `lesson_words::samples::has_minus` meets its contract: the first byte, if there is one.
 -- Assumes nothing.
 use Rattle.lesson_words.proofs.Sampled.{minus_none, minus_at}
-use borrow.Author.Rules.{rules}
 use Rattle.lesson_words.proofs.samples.has_minus.Goals as goal
 
 pub returns-then-word-eq0 : goal.returns-then-word-eq0

@@ -2,7 +2,6 @@
 -- Assumes nothing.
 use native.Mathlib.Omega.{arith}
 use Rattle.lesson_words.proofs.Sampled.{too_many, is_size_lem}
-use borrow.Author.Rules.{rules}
 use Rattle.lesson_words.proofs.samples.size.Goals as goal
 
 pub returns-then-digits-gt6 : goal.returns-then-digits-gt6

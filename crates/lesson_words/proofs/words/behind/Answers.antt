@@ -1,12 +1,7 @@
 -- `lesson_words::words::behind` meets its contract: word after word is passed.
 -- Assumes nothing.
-use mathlib.Core.Path.{◌≡◌}
-use Prim.Native.Nat.{◌-◌, ◌≤◌}
 use native.Mathlib.Omega.{arith}
-use lib.ListN.{length, drop}
-use Rattle.lesson_words.specs.Inside.{behind_words}
 use Rattle.lesson_words.proofs.Text.{behind_start, behind_on, behind_end}
-use borrow.Author.Rules.{rules}
 use Rattle.lesson_words.proofs.words.behind.Goals as goal
 
 pub loop-i-init : goal.loop-i-init

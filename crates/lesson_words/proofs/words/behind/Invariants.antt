@@ -2,11 +2,8 @@
 -- Assumes nothing.
 use mathlib.Core.Path.{◌≡◌}
 use Prim.Native.Nat.{◌-◌, ◌≤◌}
-use native.Mathlib.Omega.{arith}
 use lib.ListN.{length, drop}
 use Rattle.lesson_words.specs.Inside.{behind_words}
-use Rattle.lesson_words.proofs.Text.{behind_start, behind_on, behind_end}
-use borrow.Author.Rules.{rules}
 use Rattle.lesson_words.proofs.words.behind.Given as goal
 
 abbrev pub invariant-loop-i : goal.invariant-loop-i

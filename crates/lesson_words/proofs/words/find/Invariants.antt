@@ -1,13 +1,9 @@
 -- `lesson_words::words::find` meets its contract: nothing that was passed met the test.
 -- Assumes nothing.
-use mathlib.Core.Path.{◌≡◌, refl}
-use borrow.Author.Tests.{eq-eqb, ne_eqb}
+use mathlib.Core.Path.{◌≡◌}
 use Prim.Native.Nat.{◌+◌, ◌-◌, ◌≤◌}
-use native.Mathlib.Omega.{arith}
 use lib.ListN.{length, drop}
 use Rattle.lesson_words.specs.Words.{until, is_byte}
-use Rattle.lesson_words.proofs.Text.{found, passed, nowhere}
-use borrow.Author.Rules.{rules}
 use Rattle.lesson_words.proofs.words.find.Given as goal
 
 abbrev pub invariant-loop-i : goal.invariant-loop-i

@@ -1,12 +1,9 @@
 -- `lesson_words::words::look_up` meets its contract: the entries that were passed have other names.
 -- Assumes nothing.
-use mathlib.Core.Path.{◌≡◌, refl, sym, ◌∙◌}
+use mathlib.Core.Path.{◌≡◌}
 use Prim.Native.Nat.{◌+◌, ◌-◌, ◌≤◌}
-use native.Mathlib.Omega.{arith}
 use lib.ListN.{length, drop}
 use Rattle.lesson_words.specs.Inside.{number_in, kinds_in}
-use Rattle.lesson_words.proofs.Table.{number_found, number_on, kinds_found, kinds_on, number_starts, kinds_starts, number_none, kinds_none}
-use borrow.Author.Rules.{rules}
 use Rattle.lesson_words.proofs.words.look_up.Given as goal
 
 abbrev pub invariant-loop-number : goal.invariant-loop-number

@@ -1,12 +1,8 @@
 -- `lesson_words::words::same` meets its contract: all that was passed is equal.
 -- Assumes nothing.
-use mathlib.Core.Path.{◌≡◌, refl}
-use Prim.Native.Nat.{◌-◌, ◌≤◌}
+use mathlib.Core.Path.{refl}
 use native.Mathlib.Omega.{arith}
-use lib.ListN.{length, drop}
-use Rattle.lesson_words.specs.Words.{same_text}
 use Rattle.lesson_words.proofs.Text.{same_length, same_on, same_off, same_end}
-use borrow.Author.Rules.{rules}
 use Rattle.lesson_words.proofs.words.same.Goals as goal
 
 pub returns-then-text-name : goal.returns-then-text-name

@@ -1,12 +1,9 @@
 -- `lesson_words::words::same` meets its contract: all that was passed is equal.
 -- Assumes nothing.
-use mathlib.Core.Path.{◌≡◌, refl}
+use mathlib.Core.Path.{◌≡◌}
 use Prim.Native.Nat.{◌-◌, ◌≤◌}
-use native.Mathlib.Omega.{arith}
 use lib.ListN.{length, drop}
 use Rattle.lesson_words.specs.Words.{same_text}
-use Rattle.lesson_words.proofs.Text.{same_length, same_on, same_off, same_end}
-use borrow.Author.Rules.{rules}
 use Rattle.lesson_words.proofs.words.same.Given as goal
 
 abbrev pub invariant-loop-i : goal.invariant-loop-i

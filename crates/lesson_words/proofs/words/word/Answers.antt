@@ -2,7 +2,6 @@
 -- Assumes nothing.
 use native.Mathlib.Omega.{arith}
 use Rattle.lesson_words.proofs.Text.{word_at, rest_at}
-use borrow.Author.Rules.{rules}
 use Rattle.lesson_words.proofs.words.word.Goals as goal
 
 pub returns : goal.returns

@@ -1,12 +1,9 @@
 -- `lesson_words::words::word_end` meets its contract: nothing that was passed met the test.
 -- Assumes nothing.
-use mathlib.Core.Path.{◌≡◌, refl, sym, ◌∙◌}
-use Prim.Native.Nat.{◌+◌, ◌-◌, ◌≤◌}
+use mathlib.Core.Path.{refl, sym, ◌∙◌}
 use native.Mathlib.Omega.{arith}
-use lib.ListN.{length, drop}
-use Rattle.lesson_words.specs.Words.{until, is_blank_byte}
+use Rattle.lesson_words.specs.Words.{is_blank_byte}
 use Rattle.lesson_words.proofs.Text.{found, passed, nowhere}
-use borrow.Author.Rules.{rules}
 use Rattle.lesson_words.proofs.words.word_end.Goals as goal
 
 pub loop-i-init : goal.loop-i-init

@@ -1,13 +1,10 @@
 -- `lesson_words::words::word_start` meets its contract: nothing that was passed met the test.
 -- Assumes nothing.
-use mathlib.Core.Path.{◌≡◌, refl, sym, ap, ◌∙◌}
+use mathlib.Core.Path.{refl, sym, ap, ◌∙◌}
 use mathlib.Core.Bool.{not}
-use Prim.Native.Nat.{◌+◌, ◌-◌, ◌≤◌}
 use native.Mathlib.Omega.{arith}
-use lib.ListN.{length, drop}
-use Rattle.lesson_words.specs.Words.{until, is_ink}
+use Rattle.lesson_words.specs.Words.{is_ink}
 use Rattle.lesson_words.proofs.Text.{found, passed, nowhere}
-use borrow.Author.Rules.{rules}
 use Rattle.lesson_words.proofs.words.word_start.Goals as goal
 
 pub loop-i-init : goal.loop-i-init

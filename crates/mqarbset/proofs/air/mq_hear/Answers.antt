@@ -1,6 +1,5 @@
 -- `mqarbset::air::mq_hear` meets its promise: the call's answer, turned into the struct.
 -- Assumes nothing.
-use borrow.Author.Rules.{rules}
 use Rattle.mqarbset_answers.specs.Air.{heard_as_c}
 use Rattle.mqarbset.proofs.Turned.{turned}
 use Rattle.mqarbset.proofs.air.mq_hear.Goals as goal

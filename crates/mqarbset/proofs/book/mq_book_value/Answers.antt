@@ -2,7 +2,6 @@
 -- Assumes nothing.
 use mathlib.Core.Path.{◌≡◌, ap, ◌∙◌}
 use Prim.Native.Nat.{ℕ}
-use borrow.Author.Rules.{rules}
 use Rattle.conditions.specs.declared.Direction.{Direction}
 use Rattle.classbook.specs.declared.Book.{Book}
 use Rattle.classbook.specs.Calls.{book_answer}

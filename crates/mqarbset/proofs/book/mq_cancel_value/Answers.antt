@@ -1,6 +1,5 @@
 -- `mqarbset::book::mq_cancel_value` meets its promise: the call of the library, asked of the book that was read.
 -- Assumes nothing.
-use borrow.Author.Rules.{rules}
 use Rattle.classbook.specs.declared.Book.{Book}
 use Rattle.classbook.specs.Calls.{cancel_answer}
 use Rattle.mqarbset_book.proofs.Handed.{passed_on}

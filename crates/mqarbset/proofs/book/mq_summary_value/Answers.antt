@@ -4,7 +4,6 @@ use mathlib.Core.Path.{ap, ◌∙◌}
 use Rattle.classbook.specs.declared.Book.{Book}
 use Rattle.summaries.specs.Summaries.{summary_answer}
 use Rattle.mqarbset_answers.specs.Summaries.{summary_as_c}
-use borrow.Author.Rules.{rules}
 use Rattle.mqarbset.proofs.book.mq_summary_value.Goals as goal
 
 pub returns : goal.returns

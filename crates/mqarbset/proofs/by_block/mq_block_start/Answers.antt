@@ -1,6 +1,5 @@
 -- `mqarbset::by_block::mq_block_start` meets its promise: the call's answer, turned into the struct.
 -- Assumes nothing.
-use borrow.Author.Rules.{rules}
 use Rattle.mqarbset_answers.specs.Blocks.{start_as_c}
 use Rattle.mqarbset.proofs.Turned.{turned}
 use Rattle.mqarbset.proofs.by_block.mq_block_start.Goals as goal

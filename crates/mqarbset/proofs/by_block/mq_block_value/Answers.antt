@@ -1,6 +1,5 @@
 -- `mqarbset::by_block::mq_block_value` meets its promise: the place that was handed in, and the call's answer turned into the struct.
 -- Assumes nothing.
-use borrow.Author.Rules.{rules}
 use Rattle.mqarbset.proofs.Turned.{turned_block}
 use Rattle.mqarbset.proofs.by_block.mq_block_value.Goals as goal
 

@@ -1,6 +1,5 @@
 -- `mqarbset::pages::mq_indicator` meets its promise: the call's answer, turned into the struct.
 -- Assumes nothing.
-use borrow.Author.Rules.{rules}
 use Rattle.mqarbset_answers.specs.Pages.{indicator_as_c}
 use Rattle.mqarbset.proofs.Turned.{turned}
 use Rattle.mqarbset.proofs.pages.mq_indicator.Goals as goal

@@ -1,6 +1,5 @@
 -- `mqarbset::pages::mq_read_page` meets its promise: the call's answer, turned into the struct.
 -- Assumes nothing.
-use borrow.Author.Rules.{rules}
 use Rattle.mqarbset.proofs.Turned.{turned_leaving}
 use Rattle.mqarbset.proofs.pages.mq_read_page.Goals as goal
 

@@ -1,6 +1,5 @@
 -- `mqarbset::pairs::mq_pair` meets its promise: the call's answer, turned into the struct.
 -- Assumes nothing.
-use borrow.Author.Rules.{rules}
 use Rattle.mqarbset_answers.specs.Pairs.{pair_as_c}
 use Rattle.mqarbset.proofs.Turned.{turned}
 use Rattle.mqarbset.proofs.pairs.mq_pair.Goals as goal

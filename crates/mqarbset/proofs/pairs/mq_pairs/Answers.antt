@@ -1,6 +1,5 @@
 -- `mqarbset::pairs::mq_pairs` meets its promise: the call's answer, turned into the struct.
 -- Assumes nothing.
-use borrow.Author.Rules.{rules}
 use Rattle.mqarbset.proofs.Turned.{turned_leaving}
 use Rattle.mqarbset.proofs.pairs.mq_pairs.Goals as goal
 

@@ -2,7 +2,6 @@
 -- Assumes nothing.
 use mathlib.Core.Path.{◌∙◌}
 use Prim.Native.Nat.{ℕ}
-use borrow.Author.Rules.{rules}
 use Rattle.conditions.specs.declared.Direction.{Direction}
 use Rattle.timeslots.specs.Calls.{at_answer}
 use Rattle.mqarbset_answers.specs.Parts.{place_as_c}

@@ -1,6 +1,5 @@
 -- `mqarbset::parts::mq_beacon` meets its promise: the call's answer, turned into the struct.
 -- Assumes nothing.
-use borrow.Author.Rules.{rules}
 use Rattle.mqarbset_answers.specs.Parts.{beacons_as_c}
 use Rattle.mqarbset.proofs.Turned.{turned}
 use Rattle.mqarbset.proofs.parts.mq_beacon.Goals as goal

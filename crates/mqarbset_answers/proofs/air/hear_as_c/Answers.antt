@@ -1,9 +1,8 @@
 -- `mqarbset_answers::air::hear_as_c` meets its promise, case by case.
 -- Assumes nothing.
-use mathlib.Core.Path.{◌≡◌, sym, ap, ◌∙◌}
+use mathlib.Core.Path.{sym, ap, ◌∙◌}
 use Prim.Native.Nat.{ℕ}
 use lib.Ieee.{binary32, of_bits}
-use borrow.Author.Rules.{rules}
 use Rattle.floats.proofs.Whole.{zero_plain}
 use Rattle.refusals.specs.Refusals.{refused, answered}
 use Rattle.signal_card.specs.SignalCard.{f32_of}

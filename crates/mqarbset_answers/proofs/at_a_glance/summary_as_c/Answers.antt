@@ -5,7 +5,6 @@ use Prim.Native.Nat.{ℕ}
 use Rattle.summaries.specs.declared.SummaryReply.{SummaryReply}
 use Rattle.summaries.specs.Summaries.{said_summary}
 use Rattle.mqarbset_answers.specs.Summaries.{summary_as_c}
-use borrow.Author.Rules.{rules}
 use Rattle.mqarbset_answers.proofs.at_a_glance.summary_as_c.Goals as goal
 
 pub returns-in-Refused : goal.returns-in-Refused

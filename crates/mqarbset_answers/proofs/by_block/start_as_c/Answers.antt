@@ -1,7 +1,6 @@
 -- `mqarbset_answers::by_block::start_as_c` meets its promise, case by case.
 -- Assumes nothing.
 use mathlib.Core.Path.{sym, ap, ◌∙◌}
-use borrow.Author.Rules.{rules}
 use Rattle.blocks.specs.declared.StartAnswer.{StartAnswer}
 use Rattle.blocks.specs.Calls.{said_start}
 use Rattle.mqarbset_answers.specs.declared.by_block.MqBlockPlace.{MqBlockPlace}

@@ -1,7 +1,6 @@
 -- `mqarbset_answers::pages::indicator_as_c` meets its promise, case by case.
 -- Assumes nothing.
 use mathlib.Core.Path.{sym, ap}
-use borrow.Author.Rules.{rules}
 use Rattle.paging.specs.declared.IndicatorAnswer.{IndicatorAnswer}
 use Rattle.paging.specs.Calls.{said_indicator}
 use Rattle.mqarbset_answers.specs.Pages.{indicator_as_c}

@@ -1,7 +1,6 @@
 -- `mqarbset_answers::pages::owner_as_c` meets its promise, case by case.
 -- Assumes nothing.
 use mathlib.Core.Path.{sym, ap}
-use borrow.Author.Rules.{rules}
 use Rattle.paging.specs.declared.OwnerAnswer.{OwnerAnswer}
 use Rattle.paging.specs.Calls.{said_owner}
 use Rattle.mqarbset_answers.specs.Pages.{owner_as_c}

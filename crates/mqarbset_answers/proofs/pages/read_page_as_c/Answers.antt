@@ -1,7 +1,6 @@
 -- `mqarbset_answers::pages::read_page_as_c` meets its promise, case by case.
 -- Assumes nothing.
 use mathlib.Core.Path.{sym, ap}
-use borrow.Author.Rules.{rules}
 use Rattle.paging.specs.declared.ReadPageAnswer.{ReadPageAnswer}
 use Rattle.paging.specs.Calls.{said_read_page}
 use Rattle.mqarbset_answers.specs.Answers.{answer_as_c}

@@ -1,7 +1,6 @@
 -- `mqarbset_answers::pairs::pairs_as_c` meets its promise, case by case.
 -- Assumes nothing.
 use mathlib.Core.Path.{sym, ap}
-use borrow.Author.Rules.{rules}
 use Rattle.signal_card.specs.declared.PairsAnswer.{PairsAnswer}
 use Rattle.signal_card.specs.Calls.{said_pairs}
 use Rattle.mqarbset_answers.specs.Answers.{answer_as_c}

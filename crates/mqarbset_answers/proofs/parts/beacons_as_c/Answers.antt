@@ -1,7 +1,6 @@
 -- `mqarbset_answers::parts::beacons_as_c` meets its promise, case by case.
 -- Assumes nothing.
 use mathlib.Core.Path.{sym, ap}
-use borrow.Author.Rules.{rules}
 use Rattle.beacons.specs.declared.BeaconAnswer.{BeaconAnswer}
 use Rattle.beacons.specs.Calls.{said_beacon}
 use Rattle.mqarbset_answers.specs.Parts.{beacons_as_c}

@@ -1,7 +1,6 @@
 -- `mqarbset_answers::parts::parts_as_c` meets its promise, case by case.
 -- Assumes nothing.
 use mathlib.Core.Path.{sym, ap}
-use borrow.Author.Rules.{rules}
 use Rattle.timeslots.specs.declared.PartsAnswer.{PartsAnswer}
 use Rattle.timeslots.specs.Calls.{said_parts, said_layout}
 use Rattle.mqarbset_answers.specs.Parts.{parts_as_c}

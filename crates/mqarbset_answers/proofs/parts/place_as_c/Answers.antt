@@ -1,7 +1,6 @@
 -- `mqarbset_answers::parts::place_as_c` meets its promise, case by case.
 -- Assumes nothing.
 use mathlib.Core.Path.{◌≡◌, sym, ap, ◌∙◌}
-use borrow.Author.Rules.{rules}
 use Rattle.timeslots.specs.declared.AtAnswer.{AtAnswer}
 use Rattle.timeslots.specs.declared.AtAnswer.TheVariants as chip
 use Rattle.timeslots.specs.declared.Symbol.{Symbol}

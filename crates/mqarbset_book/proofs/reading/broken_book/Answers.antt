@@ -1,6 +1,5 @@
 -- `mqarbset_book::reading::broken_book` meets its promise: the row is that of a closed seat.
 -- Assumes nothing.
-use borrow.Author.Rules.{rules}
 use Rattle.seats.specs.Seats.{closed}
 use Rattle.mqarbset_book.specs.Mirror.{broken_book}
 use Rattle.mqarbset_book.proofs.reading.broken_book.Goals as goal

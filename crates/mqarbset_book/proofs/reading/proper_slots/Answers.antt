@@ -1,11 +1,7 @@
 -- `mqarbset_book::reading::proper_slots` meets its promise: what was tested and what is left to test make the whole test.
 -- Assumes nothing.
-use mathlib.Core.Path.{◌≡◌, refl}
-use mathlib.Core.Bool.{◌&&◌}
-use Prim.Native.Nat.{◌-◌, ◌≤◌}
+use mathlib.Core.Path.{refl}
 use native.Mathlib.Omega.{arith}
-use borrow.Author.Rules.{rules}
-use lib.ListN.{drop}
 use Rattle.laws.specs.Lists.{every}
 use Rattle.laws.proofs.Rows.{left_turn, left_ended}
 use Rattle.mqarbset_book.specs.Mirror.{neither, proper_slot}

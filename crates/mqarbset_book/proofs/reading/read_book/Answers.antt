@@ -3,17 +3,15 @@
 use mathlib.Core.Path.{◌≡◌, refl, sym, ap, ◌∙◌}
 use mathlib.Core.Bool.{Bool, true, false, ◌&&◌}
 use mathlib.Core.List.{List, map}
-use Prim.Native.Nat.{◌-◌}
 use native.Mathlib.Omega.{arith}
-use borrow.Author.Rules.{rules}
-use lib.ListN.{length, drop}
+use lib.ListN.{length}
 use Rattle.laws.specs.Lists.{every}
 use Rattle.laws.proofs.Rows.{left_turn, left_ended}
 use Rattle.seats.specs.declared.Seat.{Seat}
 use Rattle.classbook.specs.declared.Book.{Book}
 use Rattle.mqarbset_book.specs.declared.MqBook.{MqBook}
 use Rattle.mqarbset_book.specs.Mirror.{read_seat, proper_seat, proper, broken_book, read_book}
-use Rattle.mqarbset_book.proofs.Copied.{Copying, copy_turn, copied}
+use Rattle.mqarbset_book.proofs.Copied.{copy_turn, copied}
 use Rattle.mqarbset_book.proofs.reading.read_book.Goals as goal
 
 module _ (b : MqBook) (ok : Bool) (told : ok ≡ every proper_seat b.seats) where

@@ -1,19 +1,12 @@
 -- `mqarbset_book::reading::read_book` meets its promise: what is read and what is still to come make the seats, and so for the test of their bytes.
 -- Assumes nothing.
-use mathlib.Core.Path.{◌≡◌, refl, sym, ap, ◌∙◌}
-use mathlib.Core.Bool.{Bool, true, false, ◌&&◌}
-use mathlib.Core.List.{List, map}
+use mathlib.Core.Path.{◌≡◌}
+use mathlib.Core.Bool.{◌&&◌}
 use Prim.Native.Nat.{◌-◌}
-use native.Mathlib.Omega.{arith}
-use borrow.Author.Rules.{rules}
-use lib.ListN.{length, drop}
+use lib.ListN.{drop}
 use Rattle.laws.specs.Lists.{every}
-use Rattle.laws.proofs.Rows.{left_turn, left_ended}
-use Rattle.seats.specs.declared.Seat.{Seat}
-use Rattle.classbook.specs.declared.Book.{Book}
-use Rattle.mqarbset_book.specs.declared.MqBook.{MqBook}
-use Rattle.mqarbset_book.specs.Mirror.{read_seat, proper_seat, proper, broken_book, read_book}
-use Rattle.mqarbset_book.proofs.Copied.{Copying, copy_turn, copied}
+use Rattle.mqarbset_book.specs.Mirror.{read_seat, proper_seat}
+use Rattle.mqarbset_book.proofs.Copied.{Copying}
 use Rattle.mqarbset_book.proofs.reading.read_book.Given as goal
 
 abbrev pub invariant-loop-i : goal.invariant-loop-i

@@ -1,14 +1,12 @@
 -- `mqarbset_book::reading::read_row` meets its promise: what is written and what is still to come make the row wanted.
 -- Assumes nothing.
 use mathlib.Core.Path.{refl, ap}
-use Prim.Native.Nat.{◌-◌}
 use native.Mathlib.Omega.{arith}
-use borrow.Author.Rules.{rules}
 use lib.ListN.{length}
 use Rattle.seats.specs.declared.Seat.{Seat}
 use Rattle.seats.specs.Seats.{closed}
 use Rattle.mqarbset_book.specs.Mirror.{read_booking}
-use Rattle.mqarbset_book.proofs.Copied.{Copying, copy_turn, copied}
+use Rattle.mqarbset_book.proofs.Copied.{copy_turn, copied}
 use Rattle.mqarbset_book.proofs.reading.read_row.Goals as goal
 
 pub loop-i-init : goal.loop-i-init

@@ -1,6 +1,5 @@
 -- `mqarbset_book::reading::read_seat` meets its promise: field by field.
 -- Assumes nothing.
-use borrow.Author.Rules.{rules}
 use Rattle.mqarbset_book.specs.Mirror.{read_seat}
 use Rattle.mqarbset_book.proofs.reading.read_seat.Goals as goal
 

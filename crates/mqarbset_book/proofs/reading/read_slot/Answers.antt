@@ -1,7 +1,6 @@
 -- `mqarbset_book::reading::read_slot` meets its promise: field by field.
 -- Assumes nothing.
 use Rattle.mqarbset_book.specs.Mirror.{read_slot}
-use borrow.Author.Rules.{rules}
 use Rattle.mqarbset_book.proofs.reading.read_slot.Goals as goal
 
 pub returns : goal.returns

@@ -1,11 +1,9 @@
 -- `mqarbset_book::reading::read_slots` meets its promise: what is written and what is still to come make those wanted.
 -- Assumes nothing.
 use mathlib.Core.Path.{refl}
-use Prim.Native.Nat.{◌-◌}
 use native.Mathlib.Omega.{arith}
-use borrow.Author.Rules.{rules}
 use Rattle.mqarbset_book.specs.Mirror.{read_slot}
-use Rattle.mqarbset_book.proofs.Copied.{Copying, copy_turn, copied}
+use Rattle.mqarbset_book.proofs.Copied.{copy_turn, copied}
 use Rattle.mqarbset_book.proofs.reading.read_slots.Goals as goal
 
 pub loop-i-init : goal.loop-i-init

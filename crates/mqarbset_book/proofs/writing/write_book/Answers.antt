@@ -1,14 +1,11 @@
 -- `mqarbset_book::writing::write_book` meets its promise: what is written and what is still to come make the seats wanted.
 -- Assumes nothing.
-use mathlib.Core.Path.{◌≡◌, refl, ap}
+use mathlib.Core.Path.{refl, ap}
 use mathlib.Core.List.{List}
-use Prim.Native.Nat.{◌-◌}
 use native.Mathlib.Omega.{arith}
-use borrow.Author.Rules.{rules}
-use lib.ListN.{length}
 use Rattle.mqarbset_book.specs.declared.MqSeat.{MqSeat}
 use Rattle.mqarbset_book.specs.Mirror.{write_seat, write_book}
-use Rattle.mqarbset_book.proofs.Copied.{Copying, copy_turn, copied}
+use Rattle.mqarbset_book.proofs.Copied.{copy_turn, copied}
 use Rattle.mqarbset_book.proofs.writing.write_book.Goals as goal
 
 pub loop-i-init : goal.loop-i-init

@@ -1,6 +1,5 @@
 -- `mqarbset_book::writing::write_booking` meets its promise: field by field.
 -- Assumes nothing.
-use borrow.Author.Rules.{rules}
 use Rattle.mqarbset_book.specs.Mirror.{write_booking}
 use Rattle.mqarbset_book.proofs.Flags.{down_byte}
 use Rattle.mqarbset_book.proofs.writing.write_booking.Goals as goal

@@ -1,6 +1,5 @@
 -- `mqarbset_book::writing::write_seat` meets its promise: field by field.
 -- Assumes nothing.
-use borrow.Author.Rules.{rules}
 use Rattle.mqarbset_book.specs.Mirror.{write_seat}
 use Rattle.mqarbset_book.proofs.Flags.{flag_byte}
 use Rattle.mqarbset_book.proofs.writing.write_seat.Goals as goal

@@ -2,7 +2,6 @@
 -- Assumes nothing.
 use Rattle.mqarbset_book.specs.Mirror.{write_slot}
 use Rattle.mqarbset_book.proofs.Flags.{flag_byte}
-use borrow.Author.Rules.{rules}
 use Rattle.mqarbset_book.proofs.writing.write_slot.Goals as goal
 
 pub returns : goal.returns

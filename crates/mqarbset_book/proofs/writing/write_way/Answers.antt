@@ -1,7 +1,6 @@
 -- `mqarbset_book::writing::write_way` meets its contract: by the three ways.
 -- Assumes nothing.
 use Rattle.mqarbset_book.specs.Mirror.{write_way}
-use borrow.Author.Rules.{rules}
 use Rattle.mqarbset_book.proofs.writing.write_way.Goals as goal
 
 pub returns-in-Neither : goal.returns-in-Neither

@@ -9,7 +9,6 @@ use Rattle.laws.proofs.Rows.{get_d_any}
 use Rattle.conditions.specs.Conditions.{bad_timeslot}
 use Rattle.slots.specs.declared.Slot.{Slot}
 use Rattle.slots.specs.Inside.{no_slot, hits_with}
-use borrow.Author.Rules.{rules}
 use Rattle.seats.proofs.rules.clashes_there.Goals as goal
 
 low : (t : ℕ) → bad_timeslot t ≡ false → t ≤ 14

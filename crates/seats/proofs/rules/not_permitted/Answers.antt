@@ -1,7 +1,6 @@
 -- `seats::rules::not_permitted` meets its contract: it is the condition of 4, by the seat's count for the burst type.
 -- Assumes nothing.
 use mathlib.Core.Path.{refl}
-use borrow.Author.Rules.{rules}
 use Rattle.seats.specs.Conditions.{not_permitted}
 use Rattle.seats.proofs.rules.not_permitted.Goals as goal
 

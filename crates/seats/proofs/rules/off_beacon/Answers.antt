@@ -2,10 +2,8 @@
 -- Assumes nothing.
 use mathlib.Core.Path.{sym, ap, ◌∙◌}
 use mathlib.Core.Bool.{Bool, ◌&&◌}
-use borrow.Author.Tests.{not-true, not-false}
 use Rattle.bookings.specs.Bookings.{breaks_beacon}
 use Rattle.seats.specs.Conditions.{off_beacon}
-use borrow.Author.Rules.{rules}
 use Rattle.seats.proofs.rules.off_beacon.Goals as goal
 
 pub returns-then-not-there : goal.returns-then-not-there

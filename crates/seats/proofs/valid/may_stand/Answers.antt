@@ -6,7 +6,6 @@ use borrow.Author.Tests.{eq-eqb, ne_eqb}
 use Rattle.laws.proofs.Bools.{fails_first, fails_second, last_decides}
 use Rattle.bookings.specs.Bookings.{form_of}
 use Rattle.seats.specs.Seats.{stands}
-use borrow.Author.Rules.{rules}
 use Rattle.seats.proofs.valid.may_stand.Goals as goal
 
 pub returns-then-form-ne0 : goal.returns-then-form-ne0

@@ -2,7 +2,6 @@
 -- Assumes nothing.
 use native.Mathlib.Omega.{arith}
 use Rattle.seats.proofs.Blanks.{blank_told, flag_low}
-use borrow.Author.Rules.{rules}
 use Rattle.seats.proofs.valid.number_of.Goals as goal
 
 pub overflow_add-result-2 : goal.overflow_add-result-2

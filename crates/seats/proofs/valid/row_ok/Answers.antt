@@ -3,10 +3,8 @@
 use mathlib.Core.Path.{◌≡◌, refl, sym, ap, ◌∙◌}
 use mathlib.Core.Bool.{Bool, true, ◌&&◌}
 use mathlib.Core.List.{List}
-use Prim.Native.Nat.{ℕ, ◌+◌, ◌-◌, ◌≤◌, ◌<◌}
+use Prim.Native.Nat.{ℕ, ◌+◌, ◌≤◌, ◌<◌}
 use native.Mathlib.Omega.{arith}
-use borrow.Author.Rules.{rules}
-use borrow.Author.Tests.{not-true, not-false}
 use lib.Dec.{eqb}
 use lib.ListN.{length, take, drop}
 use Rattle.laws.specs.Lists.{every, chain, pairs, matches}
@@ -22,7 +20,7 @@ use Rattle.slots.proofs.ByMasks.{no_clash}
 use Rattle.slots.proofs.Summary.{fifteen}
 use Rattle.seats.specs.Seats.{is_blank, stands}
 use Rattle.seats.proofs.Blanks.{or_zero}
-use Rattle.seats.proofs.Walked.{in_form, stood_on, forms_on, form_here, timeslot_here, count_here, walk_on}
+use Rattle.seats.proofs.Walked.{stood_on, forms_on, form_here, timeslot_here, count_here, walk_on}
 use Rattle.seats.proofs.Sorted.{next_key, sorted_on, next_on}
 use Rattle.seats.proofs.Free.{all_free}
 use Rattle.seats.proofs.valid.row_ok.Goals as goal

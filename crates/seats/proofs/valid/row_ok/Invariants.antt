@@ -1,30 +1,16 @@
 -- `seats::valid::row_ok` meets its contract: what was passed holds, and the rest is to be tested; one that may not stand decides.
 -- Assumes nothing.
-use mathlib.Core.Path.{◌≡◌, refl, sym, ap, ◌∙◌}
-use mathlib.Core.Bool.{Bool, true, ◌&&◌}
-use mathlib.Core.List.{List}
-use Prim.Native.Nat.{ℕ, ◌+◌, ◌-◌, ◌≤◌, ◌<◌}
-use native.Mathlib.Omega.{arith}
-use borrow.Author.Rules.{rules}
-use borrow.Author.Tests.{not-true, not-false}
+use mathlib.Core.Path.{◌≡◌}
+use mathlib.Core.Bool.{true, ◌&&◌}
+use Prim.Native.Nat.{◌-◌, ◌≤◌}
 use lib.Dec.{eqb}
-use lib.ListN.{length, take, drop}
+use lib.ListN.{take, drop}
 use Rattle.laws.specs.Lists.{every, chain, pairs, matches}
-use Rattle.laws.proofs.Bools.{fails_first}
-use Rattle.laws.proofs.Rows.{turn, ended, left_turn, left_ended, goes_on, stops}
-use Rattle.laws.proofs.Matches.{matches_turn, matches_ended}
-use Rattle.bookings.specs.declared.Booking.{Booking}
 use Rattle.bookings.specs.Bookings.{comes}
-use Rattle.slots.specs.declared.Slot.{Slot}
 use Rattle.slots.specs.Slots.{same_slot, summary_of}
-use Rattle.slots.specs.Inside.{no_slot}
 use Rattle.slots.proofs.ByMasks.{no_clash}
-use Rattle.slots.proofs.Summary.{fifteen}
 use Rattle.seats.specs.Seats.{is_blank, stands}
-use Rattle.seats.proofs.Blanks.{or_zero}
-use Rattle.seats.proofs.Walked.{in_form, stood_on, forms_on, form_here, timeslot_here, count_here, walk_on}
-use Rattle.seats.proofs.Sorted.{next_key, sorted_on, next_on}
-use Rattle.seats.proofs.Free.{all_free}
+use Rattle.seats.proofs.Sorted.{next_key}
 use Rattle.seats.proofs.valid.row_ok.Given as goal
 
 abbrev pub invariant-loop-i : goal.invariant-loop-i

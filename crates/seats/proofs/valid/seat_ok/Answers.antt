@@ -2,7 +2,6 @@
 -- Assumes nothing.
 use Rattle.seats.specs.Seats.{is_bare}
 use Rattle.seats.proofs.Tested.{seat_tested}
-use borrow.Author.Rules.{rules}
 use Rattle.seats.proofs.valid.seat_ok.Goals as goal
 
 pub row_ok-fit-requires : goal.row_ok-fit-requires

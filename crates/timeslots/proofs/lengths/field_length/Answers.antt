@@ -1,7 +1,6 @@
 -- `timeslots::lengths::field_length` meets its contract: the table of the source is the table of the definition.
 -- Assumes nothing.
 use mathlib.Core.Path.{refl}
-use borrow.Author.Rules.{rules}
 use Rattle.timeslots.specs.Timeslots.{fields, field_length}
 use Rattle.timeslots.proofs.lengths.field_length.Goals as goal
 

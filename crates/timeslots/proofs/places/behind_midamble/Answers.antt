@@ -1,7 +1,6 @@
 -- `timeslots::places::behind_midamble` meets its contract: its tests are those of the definition.
 -- Assumes nothing.
 use borrow.Author.Tests.{lt-ltb, le-ltb}
-use borrow.Author.Rules.{rules}
 use Rattle.timeslots.specs.Inside.{behind_midamble}
 use Rattle.timeslots.specs.Calls.{said_at}
 use Rattle.timeslots.proofs.places.behind_midamble.Goals as goal

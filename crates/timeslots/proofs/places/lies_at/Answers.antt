@@ -6,13 +6,10 @@ use Prim.Native.Nat.{ℕ, ◌-◌, ◌/◌, ◌<◌, ◌≤◌}
 use native.Mathlib.Nat.{div-one}
 use native.Mathlib.Omega.{arith}
 use borrow.Author.Tests.{lt-ltb, le-ltb}
-use borrow.Author.Rules.{rules}
 use Rattle.conditions.specs.declared.Direction.{Direction}
 use Rattle.refusals.specs.Refusals.{answered}
 use Rattle.timeslots.specs.declared.lengths.Lengths.{Lengths}
-use Rattle.timeslots.specs.declared.AtAnswer.TheVariants.{Midamble, Symbol}
-use Rattle.timeslots.specs.declared.Symbol.TheVariants.{Data1, Data2, Tfci1, Tfci2, Tpc}
-use Rattle.timeslots.specs.Timeslots.{Part, DATA1, TFCI1, MIDAMBLE, TPC, TFCI2, DATA2, GUARD, control_chips, unit, lies, part_length, lies_at}
+use Rattle.timeslots.specs.Timeslots.{Part, DATA1, TFCI1, MIDAMBLE, TPC, TFCI2, DATA2, control_chips, unit, lies, part_length, lies_at}
 use Rattle.timeslots.specs.Inside.{lengths_of, behind_midamble}
 use Rattle.timeslots.specs.Calls.{said_at}
 use Rattle.timeslots.proofs.Sizes.{request, control_low}

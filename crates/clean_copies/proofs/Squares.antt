@@ -53,8 +53,8 @@ apart_below a c n h na nc = omega arith
 abbrev pub squares : ℕ → ℕ → ℕ → ℕ → ℕ
 squares a b c d = let x = nat_abs (pos a -ℤ pos c) in let y = nat_abs (pos b -ℤ pos d) in x * x + y * y
 
-pub squares_below : (a b c d n : ℕ) → a + b + c + d ≡ n → (a ≡ n → ⊥) → (b ≡ n → ⊥) → (c ≡ n → ⊥) → (d ≡ n → ⊥) → squares a b c d < n * n
-squares_below a b c d n all na nb nc nd =
+below : (a b c d n : ℕ) → a + b + c + d ≡ n → (a ≡ n → ⊥) → (b ≡ n → ⊥) → (c ≡ n → ⊥) → (d ≡ n → ⊥) → squares a b c d < n * n
+below a b c d n all na nb nc nd =
     rw (size a c, size b d)
     (two_squares (apart a c) (apart b d) n
     (apart_below a c n (omega arith) na nc)
@@ -64,13 +64,16 @@ squares_below a b c d n all na nb nc nd =
     together : (r s : ℕ) → r ≤ a + c → s ≤ b + d → r + s ≤ n
     together r s h g = omega arith
 
+pub squares_below : (a b c d n : ℕ) → a + b + c + d ≡ n → (a ≡ n → ⊥) → (b ≡ n → ⊥) → (c ≡ n → ⊥) → (d ≡ n → ⊥) → squares a b c d < n * n
+squares_below a b c d n all na nb nc nd = below a b c d n all na nb nc nd
+
 -- the same at a level: all of them so many times
 pub level_below : (level a b c d n : ℕ) → 1 ≤ level → a + b + c + d ≡ n → (a ≡ n → ⊥) → (b ≡ n → ⊥) → (c ≡ n → ⊥) → (d ≡ n → ⊥)
     → squares (level * a) (level * b) (level * c) (level * d) < level * n * (level * n)
 level_below level a b c d n some all na nb nc nd =
     let whole = ap (λ (k : ℕ). level * k) all in
     let parts : level * a + level * b + level * c + level * d ≡ level * n = omega (arith, mul-add level (a + b + c) d, mul-add level (a + b) c, mul-add level a b) in
-    squares_below (level * a) (level * b) (level * c) (level * d) (level * n) parts (less a na) (less b nb) (less c nc) (less d nd)
+    below (level * a) (level * b) (level * c) (level * d) (level * n) parts (less a na) (less b nb) (less c nc) (less d nd)
   where
     less : (k : ℕ) → (k ≡ n → ⊥) → level * k ≡ level * n → ⊥
     less k d e = d (eq_of_mul-eq-mul_left level some k n e)

@@ -94,11 +94,14 @@ sum_whole f (negsuc a) true zero =
 sum_whole f (negsuc a) true (suc b) = ap (λ (n : ℕ). round f true n 1) (omega arith)
 
 -- ---- the law
-pub sum_exact : (f : Format) (x : Float) (a b : ℤ) → nat_abs a ≤ 2 ^ prec f → IsWhole x b → add f (of_int f a) x ≡ of_int f (a +ℤ b)
-sum_exact f x a b h w =
+whole_sum : (f : Format) (x : Float) (a b : ℤ) → nat_abs a ≤ 2 ^ prec f → IsWhole x b → add f (of_int f a) x ≡ of_int f (a +ℤ b)
+whole_sum f x a b h w =
     add_value f (of_int f a) x (is_minus a) w.minus (nat_abs a) w.size (whole_exact f a h) w.value
     ∙ sum_whole f a w.minus w.size
     ∙ ap (λ (z : ℤ). of_int f (a +ℤ z)) (sym w.is)
+
+pub sum_exact : (f : Format) (x : Float) (a b : ℤ) → nat_abs a ≤ 2 ^ prec f → IsWhole x b → add f (of_int f a) x ≡ of_int f (a +ℤ b)
+sum_exact f x a b h w = whole_sum f x a b h w
 
 -- the other sign
 pub minus_whole : (x : Float) (z : ℤ) → IsWhole x z → IsWhole (neg x) (neg_ℤ z)
@@ -112,7 +115,7 @@ minus_whole x z w =
 
 pub difference_exact : (f : Format) (x : Float) (a b : ℤ) → nat_abs a ≤ 2 ^ prec f → IsWhole x b → sub f (of_int f a) x ≡ of_int f (a -ℤ b)
 unfolding sub
-difference_exact f x a b h w = sum_exact f (neg x) a (neg_ℤ b) h (minus_whole x b w)
+difference_exact f x a b h w = whole_sum f (neg x) a (neg_ℤ b) h (minus_whole x b w)
 
 -- a whole number is its size with its sign
 sign_and_size : (z : ℤ) → z ≡ signed (is_minus z) (nat_abs z)

@@ -20,6 +20,12 @@ unfolding of_int
 whole_exact f (pos n) h = round_whole f false n h
 whole_exact f (negsuc n) h = round_whole f true (suc n) h
 
+-- the same, for what follows in this file
+exact : (f : Format) (z : ℤ) → nat_abs z ≤ 2 ^ prec f → HasValue (of_int f z) (is_minus z) (nat_abs z) 1
+unfolding of_int
+exact f (pos n) h = round_whole f false n h
+exact f (negsuc n) h = round_whole f true (suc n) h
+
 pub value_negated : (x : Float) (s : Bool) (a : ℕ) → HasValue x s a 1 → HasValue (neg x) (not s) a 1
 unfolding neg
 value_negated nan s a v = absurd v
@@ -36,8 +42,8 @@ whole_negated f (suc n) l h =
     whole_unique f (neg (of_int f (pos (suc n)))) (of_int f (negsuc n)) true (suc n)
     (neg-fits f (of_int f (pos (suc n))) (of_int-fits f (pos (suc n))))
     (of_int-fits f (negsuc n))
-    (value_negated (of_int f (pos (suc n))) false (suc n) (whole_exact f (pos (suc n)) h))
-    (whole_exact f (negsuc n) h)
+    (value_negated (of_int f (pos (suc n))) false (suc n) (exact f (pos (suc n)) h))
+    (exact f (negsuc n) h)
 
 -- the float of zero is plain zero: no bit of it is set
 pub zero_plain : (of_bits binary32 0 ≡ of_int binary32 (pos 0)) × (to_bits binary32 (of_int binary32 (pos 0)) ≡ 0)
@@ -46,8 +52,8 @@ zero_plain = (refl, refl)
 
 -- no whole number's float is minus zero
 pub never_minus_zero : (f : Format) (z e : ℤ) → nat_abs z ≤ 2 ^ prec f → of_int f z ≡ fin true 0 e → ⊥
-never_minus_zero f (pos n) e h p = true≢false (subst (λ (x : Float). HasValue x false n 1) p (whole_exact f (pos n) h)).0
-never_minus_zero f (negsuc n) e h p = over (subst (λ (x : Float). HasValue x true (suc n) 1) p (whole_exact f (negsuc n) h)).1 (mul-pos (zero-lt-suc n) (down_pos e))
+never_minus_zero f (pos n) e h p = true≢false (subst (λ (x : Float). HasValue x false n 1) p (exact f (pos n) h)).0
+never_minus_zero f (negsuc n) e h p = over (subst (λ (x : Float). HasValue x true (suc n) 1) p (exact f (negsuc n) h)).1 (mul-pos (zero-lt-suc n) (down_pos e))
   where
     over : 0 * up e * 1 ≡ suc n * down e → 0 < suc n * down e → ⊥
     over q l = let z : 0 * up e ≡ 0 = omega arith in omega arith

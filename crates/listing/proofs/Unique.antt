@@ -1,5 +1,5 @@
--- The call asks nothing, and no second reply or memory could satisfy its promise. `clauses` is the contract that rattle reads off the source, as assertions of the logic:
--- a function proved by hand has no plain reading of it. A weakened `ensures` fails here. Assumes nothing.
+-- The call asks nothing, and no second reply or memory could satisfy its promise. `clauses` is the contract that rattle reads off the source, as assertions of the logic.
+-- A weakened `ensures` fails here. Assumes nothing.
 use mathlib.Core.Path.{◌≡◌, sym, ◌∙◌}
 use mathlib.Core.List.{List}
 use Prim.Native.Nat.{ℕ}

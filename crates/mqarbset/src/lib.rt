@@ -1,5 +1,5 @@
 // The C interface: each call of documents 01 and 02 under the prefix mq_, with its answer as a struct. A slice passes as a pointer and then a length.
-// Each export only calls the proved call and turns its answer into the struct.
+// Each only calls the proved call and turns its answer into the struct; the crate mqarbset_c exports them.
 #![tactic(auto)]
 
 pub mod air;

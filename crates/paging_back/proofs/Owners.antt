@@ -23,15 +23,15 @@ Has L H q b = (j : ℕ) × (j < L) × ((b ≡ first_run L q + j) ⊎ (b ≡ seco
 
 -- the owner of each kind of place
 pub owner_first : (L H b : ℕ) → b < H → owner_at L H b ≡ owned (b / L)
-owner_first = places.owner-first
+owner_first = places.owner_first
 
 pub owner_second : (L H b : ℕ) → owner_at L H (H + 4 + b) ≡ owned (b / L)
 owner_second L H b =
     let e : H + 4 + b - (H + 4) ≡ b = omega arith in
-    places.owner-second L H (H + 4 + b) (omega arith) ∙ ap (λ (k : ℕ). owned (k / L)) e
+    places.owner_second L H (H + 4 + b) (omega arith) ∙ ap (λ (k : ℕ). owned (k / L)) e
 
 pub owner_reserved : (L H i : ℕ) → i < 4 → owner_at L H (H + i) ≡ reserved
-owner_reserved L H i h = places.owner-between L H (H + i) (omega arith) (omega arith)
+owner_reserved L H i h = places.owner_between L H (H + i) (omega arith) (omega arith)
 
 -- an owned place is of the first half or of the second
 pub place_cases : (L H p q : ℕ) → p < bits_in H → owner_at L H p ≡ owned q → (p < H) ⊎ ((b : ℕ) × (b < H) × (H + 4 + b ≡ p))
@@ -39,7 +39,7 @@ place_cases L H p q h e =
     ⊎_elim inl
     (λ (l : H ≤ p).
     ⊎_elim
-    (λ (m : p < H + 4). let o = places.owner-between L H p l m in let z : ◌≡◌ {A = ℕ} 0 1 = cc in absurd (omega arith))
+    (λ (m : p < H + 4). let o = places.owner_between L H p l m in let z : ◌≡◌ {A = ℕ} 0 1 = cc in absurd (omega arith))
     (λ (m : H + 4 ≤ p). inr (p - (H + 4), omega arith, omega arith))
     (below_or_not p (H + 4)))
     (below_or_not p H)

@@ -59,17 +59,17 @@ module _ (L H N : ℕ) (low : 1 ≤ L) (whole : N * L ≡ H) (settings rest : Li
       ∙ ⊎_elim
       (λ (l : p < H).
       get_or-append front runs 0 p (omega arith) ∙ get_or-append runs (replicate 4 0) 0 p (omega arith) ∙ runs_at L low settings N p (omega arith)
-      ∙ ap (bit_by settings) (sym (places.owner-first L H p l)))
+      ∙ ap (bit_by settings) (sym (places.owner_first L H p l)))
       (λ (l : H ≤ p).
       ⊎_elim
       (λ (m : p < H + 4).
       let k : H + (p - H) ≡ p = omega arith in
       get_or-append front runs 0 p (omega arith) ∙ ap (λ (i : ℕ). get_or front i 0) (sym k) ∙ behind runs (replicate 4 0) H (p - H) size
-      ∙ get_or-replicate 4 (p - H) 0 0 (omega arith) ∙ ap (bit_by settings) (sym (places.owner-between L H p l m)))
+      ∙ get_or-replicate 4 (p - H) 0 0 (omega arith) ∙ ap (bit_by settings) (sym (places.owner_between L H p l m)))
       (λ (m : H + 4 ≤ p).
       let k : H + 4 + (p - (H + 4)) ≡ p = omega arith in
       ap (λ (i : ℕ). get_or (front ++ runs) i 0) (sym k) ∙ behind front runs (H + 4) (p - (H + 4)) long
-      ∙ runs_at L low settings N (p - (H + 4)) (omega arith) ∙ ap (bit_by settings) (sym (places.owner-second L H p m)))
+      ∙ runs_at L low settings N (p - (H + 4)) (omega arith) ∙ ap (bit_by settings) (sym (places.owner_second L H p m)))
       (below_or_not p (H + 4)))
       (below_or_not p H)
 

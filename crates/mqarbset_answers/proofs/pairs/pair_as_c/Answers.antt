@@ -1,6 +1,6 @@
 -- `mqarbset_answers::pairs::pair_as_c` meets its promise, case by case.
 -- Assumes nothing.
-use mathlib.Core.Path.{sym, ap, ◌∙◌}
+use mathlib.Core.Path.{◌≡◌, sym, ap, ◌∙◌}
 use Prim.Native.Nat.{ℕ}
 use lib.Ieee.{binary32, of_bits}
 use Rattle.floats.proofs.Whole.{zero_plain}

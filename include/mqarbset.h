@@ -161,7 +161,7 @@ static inline char *mq_refusal_string(uint32_t number, char *text)
  *   count    midambles in the cell: 4, 8 or 16 (types 1, 3), 3 or 6 (type 2)
  *   user     one that the count permits: 1 to count, but for the count 4, which permits the odd users 1, 3, 5 and 7
  *   chip     from 1 to MQ_LONG_MIDAMBLE, or MQ_SHORT_MIDAMBLE for type 2
- * Value: 0 to 3. Refusals: 1, 2, 3, 4, 10. Stack: 9 KB. */
+ * Value: 0 to 3. Refusals: 1, 2, 3, 4, 10. Stack: 11 KB. */
 MQ_MUST_USE mq_answer mq_midamble_chip(uint32_t cell, uint32_t burst, uint32_t count, uint32_t user, uint32_t chip);
 
 /* All chips of a user's midamble, a byte each, from chip 1 on.
@@ -232,7 +232,7 @@ typedef struct mq_pair_answer {
 
 /* One chip of a user's midamble at a level.
  *   level    a whole number, 1 to MQ_LEVEL_LIMIT; the others as for mq_midamble_chip
- * Refusals: 1, 2, 3, 4, 10, 22. Stack: 9 KB. */
+ * Refusals: 1, 2, 3, 4, 10, 22. Stack: 11 KB. */
 MQ_MUST_USE mq_pair_answer mq_pair(uint32_t cell, uint32_t burst, uint32_t count, uint32_t user, uint32_t chip, uint32_t level);
 
 /* All chips of a user's midamble at a level, real part then imaginary part, chip after chip from chip 1 on.
@@ -426,7 +426,7 @@ static inline uint32_t mq_taken(mq_book *book, const mq_book_answer *answer)
  *   long_count   midambles of types 1 and 3: 4, 8, 16, or 0 for 8
  *   short_count  midambles of type 2: 3, 6, or 0 for 3
  * Users above 8 (type 2: above 3) need 16 and 6 outright; before version 0.8.0 a count of 0 stood for these.
- * Refusals: 1, 3, 9, 12, 13, 15. Stack: 60 KB. */
+ * Refusals: 1, 3, 9, 12, 13, 15. Stack: 72 KB. */
 MQ_MUST_USE static inline uint32_t mq_open(mq_book *book, uint32_t seat, uint32_t cell, uint32_t sync, uint32_t k, uint32_t long_count, uint32_t short_count)
 {
     mq_book_answer answer = mq_open_value(mq_held(book), seat, cell, sync, k, long_count, short_count);
@@ -444,7 +444,7 @@ MQ_MUST_USE static inline uint32_t mq_open(mq_book *book, uint32_t seat, uint32_
  *   tfci, tpc    TFCI and TPC bits, as for mq_parts
  * In one timeslot two bookings of a seat clash (17) if their directions differ, or if exactly one of them is type 2 (types 1 and 3 may lie beside
  * each other), or if their codes share a leaf.
- * Refusals: 2, 4 to 8, 12 to 14, 16 to 20. Stack: 60 KB. */
+ * Refusals: 2, 4 to 8, 12 to 14, 16 to 20. Stack: 85 KB. */
 MQ_MUST_USE static inline uint32_t mq_book_code(mq_book *book, uint32_t seat, uint32_t timeslot, uint32_t direction, uint32_t burst, uint32_t factor, uint32_t index,
                                                 uint32_t user, uint32_t tfci, uint32_t tpc)
 {
@@ -453,14 +453,14 @@ MQ_MUST_USE static inline uint32_t mq_book_code(mq_book *book, uint32_t seat, ui
 }
 
 /* Cancels the booking of a seat that is named by timeslot and code; the numbers as for mq_book_code.
- * Refusals: 5, 6, 12, 13, 14, 21. Stack: 60 KB. */
+ * Refusals: 5, 6, 12, 13, 14, 21. Stack: 79 KB. */
 MQ_MUST_USE static inline uint32_t mq_cancel(mq_book *book, uint32_t seat, uint32_t timeslot, uint32_t factor, uint32_t index)
 {
     mq_book_answer answer = mq_cancel_value(mq_held(book), seat, timeslot, factor, index);
     return mq_taken(book, &answer);
 }
 
-/* Closes a seat: its bookings and its settings go. Refusals: 12, 13, 14. Stack: 60 KB. */
+/* Closes a seat: its bookings and its settings go. Refusals: 12, 13, 14. Stack: 65 KB. */
 MQ_MUST_USE static inline uint32_t mq_close(mq_book *book, uint32_t seat)
 {
     mq_book_answer answer = mq_close_value(mq_held(book), seat);
@@ -470,7 +470,7 @@ MQ_MUST_USE static inline uint32_t mq_close(mq_book *book, uint32_t seat)
 /* Lists a seat's bookings, by timeslot, then by the first leaf of their codes. The book stays as it is.
  *   records      at least MQ_LIST_RECORDS records; those behind the bookings stay as they were
  *   count        how many records are lent
- * Value: how many bookings were written. Refusals: 11, 12, 13, 14. Stack: 40 KB. */
+ * Value: how many bookings were written. Refusals: 11, 12, 13, 14. Stack: 47 KB. */
 MQ_MUST_USE static inline mq_answer mq_list(const mq_book *book, uint32_t seat, mq_booking *records, size_t count)
 {
     size_t lent = count < MQ_LIST_RECORDS ? count : MQ_LIST_RECORDS;
@@ -482,7 +482,7 @@ MQ_MUST_USE static inline mq_answer mq_list(const mq_book *book, uint32_t seat, 
  *   timeslot     0 to 14
  * Code (factor, index) is free where none of its leaves is covered: with n = MQ_LEAVES / factor,
  * (leaves >> ((index - 1) * n) & ((1u << n) - 1)) == 0.
- * Refusals: 5, 12, 13, 14. Stack: 40 KB. */
+ * Refusals: 5, 12, 13, 14. Stack: 47 KB. */
 MQ_MUST_USE static inline mq_summary_answer mq_summary(const mq_book *book, uint32_t seat, uint32_t timeslot)
 {
     return mq_summary_value(mq_held(book), seat, timeslot);

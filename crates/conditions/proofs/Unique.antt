@@ -1,7 +1,7 @@
 -- No test of a condition asks anything of its caller (`Pre` holds of everything), and no second answer satisfies its promise (`Post`): both as
 -- rattle reads them off the source, at lifetimes κs, arguments a, answer r and exit s. Assumes nothing.
 use mathlib.Core.Path.{◌≡◌, sym, ◌∙◌}
-use Rattle.conditions.proofs.is_down.Reads as is_down
+use Rattle.conditions.proofs.Direction.is_down.Reads as is_down
 use Rattle.conditions.proofs.bad_cell.Reads as bad-cell
 use Rattle.conditions.proofs.bad_type.Reads as bad-type
 use Rattle.conditions.proofs.bad_count.Reads as bad-count

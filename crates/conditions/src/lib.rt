@@ -1,22 +1,21 @@
 // Document 01, "Refusal numbers", and document 02's 22 and 23: the conditions on numbers, in the order of their numbers; and up and down. The tables made of them: the crate tables.
-#![tactic(auto)]
+#![tactic(auto, unfolding(crate::specs::Conditions::is_down, crate::specs::Conditions::bad_cell, crate::specs::Conditions::bad_type, crate::specs::Conditions::bad_count, crate::specs::Conditions::bad_user, crate::specs::Conditions::bad_booked_user, crate::specs::Conditions::bad_timeslot, crate::specs::Conditions::bad_factor, crate::specs::Conditions::bad_code, crate::specs::Conditions::bad_down_factor, crate::specs::Conditions::bad_down_type, crate::specs::Conditions::bad_control, crate::specs::Conditions::bad_beacon, crate::specs::Conditions::bad_pich, crate::specs::Conditions::bad_frames, crate::specs::Conditions::bad_level, crate::specs::Conditions::bad_place))]
 
 ghost use Rattle.std.specs.Prelude.{eqb, ◌||◌, ◌≡◌};
 ghost use Rattle.conditions.specs.Conditions.{is_down, bad_cell, bad_type, bad_count, bad_user, bad_booked_user, bad_timeslot, bad_factor, bad_code, bad_down_factor, bad_down_type, bad_control, bad_beacon, bad_pich, bad_frames, bad_level, bad_place};
 
 // Of a timeslot or a booking: up or down, there is no third.
-#[derive(Clone, Copy)]
+#[derive(Clone, Copy, Debug, PartialEq, Eq)]
 pub enum Direction {
     Up,
     Down,
 }
 
-pub fn is_down(direction: Direction) -> bool
-    ensures { result ≡ is_down direction }
-{
-    match direction {
-        Direction::Up => false,
-        Direction::Down => true,
+impl Direction {
+    pub fn is_down(self) -> bool
+        ensures { result ≡ is_down self }
+    {
+        self == Direction::Down
     }
 }
 
@@ -72,57 +71,42 @@ pub fn bad_timeslot(timeslot: u32) -> bool
 pub fn bad_factor(factor: u32) -> bool
     ensures { result ≡ bad_factor factor }
 {
-    match factor {
-        1 => false,
-        2 => false,
-        4 => false,
-        8 => false,
-        16 => false,
-        _ => true,
-    }
+    !matches!(factor, 1 | 2 | 4 | 8 | 16)
 }
 
 // 6, of a code: a bad factor, or an index outside 1 to the factor.
 pub fn bad_code(factor: u32, index: u32) -> bool
     ensures { result ≡ bad_code factor index }
 {
-    let f = bad_factor(factor);
-    f | ((index < 1) | (index > factor))
+    bad_factor(factor) | ((index < 1) | (index > factor))
 }
 
 // 6: downlink with a factor other than 1 or 16.
 pub fn bad_down_factor(direction: Direction, factor: u32) -> bool
     ensures { result ≡ bad_down_factor direction factor }
 {
-    is_down(direction) & !((factor == 1) | (factor == 16))
+    direction.is_down() & !((factor == 1) | (factor == 16))
 }
 
 // 7: type 3 in downlink.
 pub fn bad_down_type(direction: Direction, burst: u32) -> bool
     ensures { result ≡ bad_down_type direction burst }
 {
-    is_down(direction) & (burst == 3)
+    direction.is_down() & (burst == 3)
 }
 
 // "TFCI bits .. 0, 4, 8, 16, 32"
 fn fits_tfci(tfci: u32) -> bool
     ensures { result ≡ (eqb tfci 0 || eqb tfci 4 || eqb tfci 8 || eqb tfci 16 || eqb tfci 32) }
 {
-    match tfci {
-        0 => true,
-        4 => true,
-        8 => true,
-        16 => true,
-        32 => true,
-        _ => false,
-    }
+    matches!(tfci, 0 | 4 | 8 | 16 | 32)
 }
 
 // 8: TFCI bits not 0, 4, 8, 16 or 32; TPC bits not 0 or 2; TPC 2 in downlink.
 pub fn bad_control(direction: Direction, tfci: u32, tpc: u32) -> bool
     ensures { result ≡ bad_control direction tfci tpc }
 {
-    !fits_tfci(tfci) | !((tpc == 0) | (tpc == 2)) | (is_down(direction) & (tpc == 2))
+    !fits_tfci(tfci) | !((tpc == 0) | (tpc == 2)) | (direction.is_down() & (tpc == 2))
 }
 
 // 9: the synchronisation case is not 1 or 2, or k is above 14 (case 1) or above 6 (case 2).

@@ -70,7 +70,7 @@ append_rows [] u k l = first_row_by_row u l
 append_rows ((n, true) ∷ t) u k l = rows_stay n u (not_zero n t k)
 append_rows ((n, false) ∷ t) u k l = append_rows t u (T-and-right (ltb 0 n) (numbered t) k) l
 
--- A call's code reads its table row by row: n was given so far, and with the rows that are left it comes to the table's first refusal.
+-- A table read row by row: n was given so far, and with the rows that are left it comes to the table's first refusal.
 pub record Reading (n : ℕ) (left : Refusals) (first : ℕ) : Type 0 where
   pub comes : row_by_row n left ≡ first
 

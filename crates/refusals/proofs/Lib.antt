@@ -1,1 +1,3 @@
 pub mod First
+pub mod Numbers
+pub mod Tests

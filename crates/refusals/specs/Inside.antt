@@ -1,4 +1,4 @@
--- How the calls' code finds the first refusal: row by row. No reader of a public promise has to believe it.
+-- A table read row by row, a refusal that was given going on to the next row: the laws on it (proofs/First.antt) say that this gives its first. No reader of a public promise has to believe it.
 -- Assumes nothing.
 use Rattle.std.specs.Prelude.{Bool, cond, [], ◌∷◌, ℕ, eqb}
 use Rattle.refusals.specs.Refusals.{Refusals}

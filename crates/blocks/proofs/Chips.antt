@@ -5,6 +5,8 @@ use mathlib.Core.List.{List, [], ◌++◌}
 use Prim.Native.Nat.{ℕ, ◌+◌, ◌-◌, ◌≤◌}
 use native.Mathlib.Omega.{arith}
 use lib.ListN.{length, get_or, take, drop, length-drop}
+use Rattle.std.proofs.Common.{min}
+use Rattle.std.proofs.lemmas.List.{length-take}
 use Rattle.laws.specs.Runs.{run}
 use Rattle.laws.proofs.Parts.{length_none, take_few, take_within}
 use Rattle.laws.proofs.Runs.{run_length, run_same, run_part}
@@ -21,6 +23,10 @@ module _ (p : Place) where
   pub to_come_lem : length (to_come p) ≡ all - p.written
   unfolding to_come chips_of
   to_come_lem = length-drop p.written (run _ all) ∙ ap (λ (n : ℕ). n - p.written) (run_length _ all)
+
+  -- as many as are left or as there is room for, whichever is less, go into a block
+  pub length_fitting : (room : ℕ) → length (take room (to_come p)) ≡ min room (all - p.written)
+  length_fitting room = length-take room (to_come p) ∙ ap (λ (n : ℕ). min room n) to_come_lem
 
   -- no more than are left go into a block
   pub within : (room : ℕ) → length (take room (to_come p)) ≤ all - p.written

@@ -1,15 +1,11 @@
--- What the two calls of document 02's C-15 answer, for all inputs: their refusals, what their enums say, their outcomes.
--- Cited by the promises of start, refusal_at and block, and by the crates facts, mqarbset and lesson_replies. Assumes nothing.
+-- What the two calls of document 02's C-15 answer, for all inputs: their refusals and their outcomes.
+-- Cited by the promises of start, check_place and block, and by the crates facts, mqarbset and lesson_replies. Assumes nothing.
 use Rattle.std.specs.Prelude.{List, [], ◌∷◌, ◌++◌, ℕ, length, drop}
 use Rattle.conditions.specs.Conditions.{bad_place}
 use Rattle.tables.specs.Tables.{user_refusals}
-use Rattle.refusals.specs.Refusals.{Answer, Outcome, Refusals, first_of, answer, after, refused, answered, ◌leaving◌}
+use Rattle.refusals.specs.Refusals.{Answer, Outcome, Refusals, first_of, answer, after, ◌leaving◌}
 use Rattle.codes.specs.Codes.{code_of}
 use Rattle.blocks.specs.declared.Place.{Place}
-use Rattle.blocks.specs.declared.StartAnswer.{StartAnswer}
-use Rattle.blocks.specs.declared.StartAnswer.TheVariants as start
-use Rattle.blocks.specs.declared.BlockAnswer.{BlockAnswer}
-use Rattle.blocks.specs.declared.BlockAnswer.TheVariants as block
 use Rattle.blocks.specs.Blocks.{place_at, block_of, place_behind}
 
 -- "Refusals: 1 to 4 at the start"
@@ -27,12 +23,3 @@ block_outcome p out =
     let n = first_of (block_refusals p) in
     let chips = block_of p out in
     answer n (length chips) leaving after n (p, out) (place_behind p (length chips), chips ++ drop (length chips) out)
-
--- what each case of an answer says
-unfoldable pub said_start : StartAnswer → Answer Place
-said_start (start.Refused n) = refused n
-said_start (start.At p) = answered p
-
-unfoldable pub said_block : BlockAnswer → Answer ℕ
-said_block (block.Refused n) = refused n
-said_block (block.Written n) = answered n

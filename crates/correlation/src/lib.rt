@@ -12,7 +12,7 @@ ghost use Rattle.samples.specs.Samples.{sample_of};
 ghost use Rattle.correlation.specs.Inside.{turned_back, sums_of, Samples, Signs, Wholes, dot_of, Turned, sign_from, reach, HoldsSigns};
 
 // The real and the imaginary sum of a user.
-#[derive(Clone, Copy)]
+#[derive(Clone, Copy, Debug, PartialEq)]
 pub struct Sums {
     pub re: f32,
     pub im: f32,
@@ -23,10 +23,8 @@ fn halve(half: usize, columns: &mut [f32])
     requires { (2 * half ≤ length columns.old) × (half ≤ 16) × Wholes columns.old (2 * half) (2 ^ 23) }
     ensures { (k : ℕ) → k < half → get_or columns.new k nan ≡ of_int binary32 (sample_of (get_or columns.old k nan) +ℤ sample_of (get_or columns.old (k + half) nan)) }
 {
-    let mut k: usize = 0;
-    while k < half {
-        columns[k] = columns[k] + columns[k + half];
-        k += 1;
+    for k in 0..half {
+        columns[k] += columns[k + half];
     }
 }
 
@@ -52,20 +50,17 @@ fn dots(x: &[f32], y: &[f32], b: &[f32], by: usize, count: usize) -> Sums
 {
     let mut real = [0.0f32; 32];
     let mut imaginary = [0.0f32; 32];
-    let mut m: usize = 0;
-    while m < count {
-        let mut l: usize = 0;
-        while l < 32 {
+    for t in 0..count / 32 {
+        let m = 32 * t;
+        for l in 0..32 {
             let sign = b[by + m + l];
-            real[l] = real[l] + x[m + l] * sign;
-            imaginary[l] = imaginary[l] + y[m + l] * sign;
-            l += 1;
+            real[l] += x[m + l] * sign;
+            imaginary[l] += y[m + l] * sign;
         }
-        m += 32;
     }
     let re = joined(&mut real);
     let im = joined(&mut imaginary);
-    Sums { re: re, im: im }
+    Sums { re, im }
 }
 
 // A user's two sums, from the turned samples and the signs of the row: turned back as far as the user is shifted.
@@ -76,10 +71,8 @@ pub fn user_sums(re: &[f32], im: &[f32], signs: &[f32], by: usize, count: usize)
     ensures { result ≡ sums_of (turned_back by (dot_of re.now signs.now by count, dot_of im.now signs.now by count)) }
 {
     let sums = dots(re, im, signs, by, count);
-    let a = sums.re;
-    let b = sums.im;
-    let turns = by % 4;
-    match turns {
+    let (a, b) = (sums.re, sums.im);
+    match by % 4 {
         0 => Sums { re: a, im: b },
         1 => Sums { re: b, im: 0.0 - a },
         2 => Sums {
@@ -97,8 +90,8 @@ pub fn turn(row: &[f32], count: usize, re: &mut [f32], im: &mut [f32])
     requires count_in_bounds { (2 * count ≤ length row.now) × Samples row.now (2 * count) }
     ensures { Turned row.now count re.new im.new }
 {
-    let mut i: usize = 0;
-    while i < count {
+    for q in 0..count / 4 {
+        let i = 4 * q;
         let k = 2 * i;
         let a = row[k];
         let b = row[k + 1];
@@ -116,22 +109,19 @@ pub fn turn(row: &[f32], count: usize, re: &mut [f32], im: &mut [f32])
         im[i + 1] = -d;
         im[i + 2] = e;
         im[i + 3] = h;
-        i += 4;
     }
 }
 
 // The signs of the first `count` elements, from their powers of j: 1 less how far an element's power is past that of its place, counted from 1, which is 0 or 2.
 fn signs_of(powers: &[u8], count: usize, out: &mut [f32])
-    requires count_in_bounds { (count ≤ length powers.now) × (count ≤ length out.old) × (count ≤ 512) }
+    requires count_in_bounds { (count ≤ length powers.now) × (count ≤ length out.old) }
     requires by_index { (k : ℕ) → k < count → get_or powers.now k 0 < 4 }
     ensures { (m : ℕ) → m < count → get_or out.new m nan ≡ sign_from ((m + 1) % 4) (get_or powers.now m 0) }
 {
-    let mut i: usize = 0;
-    while i < count {
+    for i in 0..count {
         let place = ((i + 1) % 4) as u32;
         let past = (powers[i] as u32 + 4 - place) % 4;
         out[i] = 1.0 - past as f32;
-        i += 1;
     }
 }
 
@@ -140,10 +130,8 @@ fn repeat(period: usize, count: usize, out: &mut [f32])
     requires { (1 ≤ period) × (period ≤ count) × (count ≤ length out.old) }
     ensures { (m : ℕ) → m < count → get_or out.new m nan ≡ get_or out.old (m % period) nan }
 {
-    let mut i = period;
-    while i < count {
+    for i in period..count {
         out[i] = out[i - period];
-        i += 1;
     }
 }
 

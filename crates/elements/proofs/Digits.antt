@@ -66,7 +66,8 @@ unfolding fours_of
 fours_length zero = refl
 fours_length (suc n) = length-append (fours_of n) (four_of n ∷ []) ∙ omega (arith, fours_length n)
 
-fours_at : (n d : ℕ) → d < n → get_or (fours_of n) d [] ≡ four_of d
+-- its entry for a digit
+pub fours_at : (n d : ℕ) → d < n → get_or (fours_of n) d [] ≡ four_of d
 unfolding fours_of
 fours_at zero d h = absurd (not-suc-le-zero h)
 fours_at (suc n) d h =
@@ -75,7 +76,7 @@ fours_at (suc n) d h =
     (λ (l : d < n). get_or-append (fours_of n) (four_of n ∷ []) [] d (omega (arith, fours_length n)) ∙ fours_at n d l)
     (eq-or-lt_of_le (le_of_suc-le-suc h))
 
--- its entry for a digit, at place k from 0
+-- and one of its four elements
 pub power_at : (powers : List (List ℕ)) (d k : ℕ) → powers ≡ fours_of 16 → d < 16 → k < 4 → get_or (get_or powers d []) k 0 ≡ power_in d (k + 1)
 unfolding four_of
 power_at powers d k p h l = ap (λ (t : List (List ℕ)). get_or (get_or t d []) k 0) p ∙ ap (λ (four : List ℕ). get_or four k 0) (fours_at 16 d h) ∙ run_at (λ (e : ℕ). power_in d e) 4 k l

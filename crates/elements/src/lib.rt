@@ -17,29 +17,29 @@ pub fn chip_at(cell: u32, burst: u32, chip: u32, by: u32) -> u8
 {
     if burst == 2 {
         let t = code_rows::short_table();
-        return reading::element_in(reading::row_of(&t, 24, cell), chip, by);
+        return reading::row_of(&t, 24, cell).element_in(chip, by);
     }
     let t = code_rows::long_table();
-    reading::element_in(reading::row_of(&t, 57, cell), chip, by)
+    reading::row_of(&t, 57, cell).element_in(chip, by)
 }
 
 // As many elements of a cell's short row as `count`, the first of them element by + 1, into the first places of `out`. Apart from the long ones, so that a call has one of the tables on
 // its stack and not both.
 fn fill_short(cell: u32, by: u32, count: usize, out: &mut [u8])
-    requires { (cell < 128) × (by < 2048) × (count ≤ 512) × (count ≤ length out.old) }
+    requires { (cell < 128) × (count ≤ length out.old) }
     ensures { out.new ≡ run (λ (i : ℕ). element (code_of 2).period (get_or (rows_of 2) cell []) (i + by)) count ++ drop count out.old }
 {
     let t = code_rows::short_table();
-    filling::fill_from(reading::row_of(&t, 24, cell), by as usize, count, out);
+    filling::fill_from(reading::row_of(&t, 24, cell), by, count, out);
 }
 
 // The same of a cell's long row.
 fn fill_long(cell: u32, by: u32, count: usize, out: &mut [u8])
-    requires { (cell < 128) × (by < 2048) × (count ≤ 512) × (count ≤ length out.old) }
+    requires { (cell < 128) × (count ≤ length out.old) }
     ensures { out.new ≡ run (λ (i : ℕ). element (code_of 1).period (get_or (rows_of 1) cell []) (i + by)) count ++ drop count out.old }
 {
     let t = code_rows::long_table();
-    filling::fill_from(reading::row_of(&t, 57, cell), by as usize, count, out);
+    filling::fill_from(reading::row_of(&t, 57, cell), by, count, out);
 }
 
 // The same of the row that serves a burst type. Public for the crates blocks and correlation.

@@ -1,19 +1,14 @@
 -- What each `return` of hear answers, over plain values. Cited by the proof of hear.
 -- Assumes nothing.
-use mathlib.Core.Path.{◌≡◌, refl, sym, ap, ◌∙◌, subst}
-use mathlib.Core.Bool.{Bool, true, false, cond, ◌&&◌}
-use mathlib.Core.List.{List, [], ◌∷◌, ◌++◌}
-use Prim.Native.Nat.{ℕ, zero, suc, ◌+◌, ◌*◌, ◌%◌, ◌≤◌, ◌<◌}
+use mathlib.Core.Path.{◌≡◌, refl, ap, ◌∙◌}
+use mathlib.Core.Bool.{Bool, false, cond, ◌&&◌}
+use mathlib.Core.List.{List}
+use Prim.Native.Nat.{ℕ, zero, suc, ◌+◌, ◌*◌, ◌%◌, ◌≤◌}
 use native.Mathlib.Omega.{arith}
 use lib.Dec.{ltb}
 use lib.ListN.{length}
 use lib.IntN.{ℤ, nat_abs}
 use lib.Ieee.{Float, binary32, of_int}
-use borrow.Author.Tests.{ltb-false}
-use Rattle.refusals.specs.Refusals.{Refusals, first_of, answered}
-use Rattle.refusals.specs.Inside.{or_refused}
-use Rattle.refusals.proofs.First.{first_holds, first_passes, first_none, append_refused, append_passes, reads, reads_row, reads_all, refused_by, answered_by}
-use Rattle.conditions.specs.Conditions.{bad_cell, bad_type, bad_count, too_short}
 use Rattle.codes.specs.declared.Code.{Code}
 use Rattle.codes.specs.Codes.{code_of, permitted}
 use Rattle.codes.proofs.Numbers.{of_codes, length_high}
@@ -23,10 +18,8 @@ use Rattle.samples.proofs.Front.{each_sample}
 use Rattle.correlation.specs.Correlation.{real_sum, imaginary_sum}
 use Rattle.correlation.specs.Inside.{Samples, Turned, reach, HoldsSigns}
 use Rattle.correlation.proofs.Meaning.{sums_meant}
-use Rattle.hearing.specs.declared.HearAnswer.{HearAnswer}
-use Rattle.hearing.specs.declared.HearAnswer.TheVariants as hear
 use Rattle.hearing.specs.Hearing.{strength, loudest}
-use Rattle.hearing.specs.Calls.{somebody, hear_refusals, heard_of, who_is_heard, hear_answer, said_hear}
+use Rattle.hearing.specs.Calls.{somebody, heard_of, who_is_heard}
 use Rattle.hearing.specs.Inside.{sums_in, sums_at, strength_in, loudest_in, heard_as, heard_in}
 
 -- ---- the loudest is the same for strengths that are the same
@@ -62,74 +55,6 @@ module _ (cell burst count : ℕ) (row re im signs : List Float) (turned : Turne
       ap (heard_in re im signs burst) (loudest_same (permitted (code_of burst) count) (strength_in re im signs burst) (strength cell burst row) strength_same (2 * (code_of burst).base))
       ∙ heard_same (loudest (permitted (code_of burst) count) (strength cell burst row) (2 * (code_of burst).base))
 
--- ---- the refusals: d is the code that was fetched, one, two, three and the room as they were tested, and what each made of the number
-module _ (cell burst count n1 n2 n3 n : ℕ) (one two three : Bool) (row : List Float) (d : Code) (e : d ≡ code_of burst)
-    (c1 : one ≡ bad_cell cell) (c2 : two ≡ bad_type burst) (c3 : three ≡ bad_count burst count)
-    (r1 : n1 ≡ or_refused 0 1 one) (r2 : n2 ≡ or_refused n1 2 two) (r3 : n3 ≡ or_refused n2 3 three) (r4 : n ≡ or_refused n3 11 (ltb (length row) (2 * d.length))) where
-  abbrev front : Refusals
-  front = (1, bad_cell cell) ∷ (2, bad_type burst) ∷ (3, bad_count burst count) ∷ (11, too_short (2 * (code_of burst).length) row) ∷ []
-
-  abbrev last : Refusals
-  last = (24, bad_samples (2 * (code_of burst).length) row) ∷ []
-
-  front_is : n ≡ first_of front
-  unfolding too_short
-  front_is = reads_all (reads_row (reads_row (reads_row (reads_row (reads front tt) c1 r1) c2 r2) c3 r3) (ap (λ (x : Code). too_short (2 * x.length) row) e) r4)
-
-  joined : hear_refusals cell burst count row ≡ front ++ last
-  unfolding hear_refusals
-  joined = refl
-
-  pub refused_first : (n ≡ 0 → ⊥) → said_hear (hear.Refused n) ≡ hear_answer cell burst count row
-  unfolding said_hear hear_answer
-  refused_first h = refused_by n _ _ (front_is ∙ sym (append_refused front last (λ z. h (front_is ∙ z))) ∙ ap first_of (sym joined)) h
-
-  passed : n ≡ 0 → first_of front ≡ 0
-  passed z = sym front_is ∙ z
-
-  pub cell_low : n ≡ 0 → cell < 128
-  unfolding bad_cell
-  cell_low z = let l = ltb-false 127 cell (first_none 0 (bad_cell cell) _ (passed z)).0 in omega arith
-
-  pub room : n ≡ 0 → 2 * (code_of burst).length ≤ length row
-  unfolding too_short
-  room z =
-      let p1 = (first_none 0 (bad_cell cell) _ (passed z)).1 in
-      let p2 = (first_none 1 (bad_type burst) _ p1).1 in
-      let p3 = (first_none 2 (bad_count burst count) _ p2).1 in
-      ltb-false (length row) (2 * (code_of burst).length) (first_none 10 (too_short (2 * (code_of burst).length) row) [] p3).0
-
-  behind : n ≡ 0 → first_of (hear_refusals cell burst count row) ≡ first_of last
-  behind z = ap first_of joined ∙ append_passes front last tt (passed z)
-
-  -- b: whether one of the floats is no sample
-  pub refused_sample : n ≡ 0 → (b : Bool) → b ≡ bad_samples (2 * d.length) row → b ≡ true → said_hear (hear.Refused 24) ≡ hear_answer cell burst count row
-  unfolding said_hear hear_answer
-  refused_sample z b t y =
-      refused_by 24 _ _
-      (sym (behind z ∙ first_holds 24 (bad_samples (2 * (code_of burst).length) row) [] (ap (λ (x : Code). bad_samples (2 * x.length) row) (sym e) ∙ sym t ∙ y)))
-      (λ zero. absurd (omega arith))
-
-  good : n ≡ 0 → (b : Bool) → b ≡ bad_samples (2 * d.length) row → b ≡ false → bad_samples (2 * (code_of burst).length) row ≡ false
-  good z b t y = ap (λ (x : Code). bad_samples (2 * x.length) row) (sym e) ∙ sym t ∙ y
-
-  pub samples_good : n ≡ 0 → (b : Bool) → b ≡ bad_samples (2 * d.length) row → b ≡ false → Samples row (2 * d.length)
-  samples_good z b t y =
-      let same : d.length ≡ (code_of burst).length = ap (λ (x : Code). x.length) e in
-      record { all = λ m h. each_sample row (2 * (code_of burst).length) m (good z b t y) (room z) (omega arith) }
-
-  pub heard_answered : n ≡ 0 → (b : Bool) → b ≡ bad_samples (2 * d.length) row → b ≡ false → (r : HearAnswer) (re im signs : List Float)
-      → Turned row d.length re im → HoldsSigns cell burst (reach burst) signs
-      → said_hear r ≡ answered (heard_in re im signs burst (loudest_in re im signs burst count (2 * (code_of burst).base))) → said_hear r ≡ hear_answer cell burst count row
-  unfolding hear_answer first_of
-  heard_answered z b t y r re im signs turned held said =
-      let exact : Turned row (code_of burst).length re im = subst_length turned in
-      said
-      ∙ answered_by 0 _ _ _ (sym (behind z ∙ first_passes 24 (bad_samples (2 * (code_of burst).length) row) [] (good z b t y))) refl (same_heard cell burst count row re im signs exact held)
-    where
-      subst_length : Turned row d.length re im → Turned row (code_of burst).length re im
-      subst_length u = subst (λ (x : Code). Turned row x.length re im) e u
-
 -- ---- what is asked before the search: a code's numbers, and rows that hold samples and signs
 pub chips_good : (burst : ℕ) (d : Code) → d ≡ code_of burst → (d.length ≤ 512) × (d.length % 4 ≡ 0) × (d.length ≡ (code_of burst).length)
 chips_good burst d e =
@@ -138,3 +63,7 @@ chips_good burst d e =
 
 pub turned_samples : (row re im : List Float) (n : ℕ) → Turned row n re im → Samples re n × Samples im n
 turned_samples row re im n t = (record { all = λ m h. (t.real m h).0 }, record { all = λ m h. (t.imaginary m h).0 })
+
+-- no float is refused, so each is a sample
+pub samples_good : (row : List Float) (n : ℕ) → bad_samples n row ≡ false → n ≤ length row → Samples row n
+samples_good row n good long = record { all = λ m h. each_sample row n m good long h }

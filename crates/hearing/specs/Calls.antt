@@ -1,13 +1,13 @@
--- What the call of document 02's C-18 answers, for all inputs: its refusals, what its enum says, its answer.
+-- What the call of document 02's C-18 answers, for all inputs: its refusals, what a reply means, its answer.
 -- Cited by the promises of hear and mq_hear, and by the crates mqarbset_answers, lesson_replies, facts and clean_copies. Assumes nothing.
 use Rattle.std.specs.Prelude.{List, [], ◌∷◌, ℕ, zero, suc, ◌*◌, Float}
 use Rattle.codes.specs.Codes.{code_of, permitted}
 use Rattle.conditions.specs.Conditions.{bad_cell, bad_type, bad_count, too_short}
-use Rattle.refusals.specs.Refusals.{Answer, Refusals, first_of, answer, refused, answered}
+use Rattle.refusals.specs.Refusals.{Answer, Refusals, first_of, answer}
 use Rattle.signal_card.specs.SignalCard.{f32_of}
 use Rattle.samples.specs.Samples.{bad_samples}
-use Rattle.hearing.specs.declared.HearAnswer.{HearAnswer}
-use Rattle.hearing.specs.declared.HearAnswer.TheVariants as hear
+use Rattle.hearing.specs.declared.Heard.{Heard as Reply}
+use Rattle.hearing.specs.declared.Heard.TheVariants as reply
 use Rattle.correlation.specs.Correlation.{real_sum, imaginary_sum}
 use Rattle.hearing.specs.Hearing.{strength, loudest}
 
@@ -25,6 +25,11 @@ pub data Heard : Type 0 where
   nobody : Heard
   somebody : ℕ → Float → Float → Heard
 
+-- what a reply means
+abbrev pub heard_meant : Reply → Heard
+heard_meant reply.Nobody = nobody
+heard_meant (reply.User k re im) = somebody k re im
+
 -- of user k, 0 standing for nobody: the f32 of a sum is that sum, and of zero plain zero (floats/proofs/Whole.antt)
 unfoldable pub heard_of : ℕ → ℕ → List Float → ℕ → Heard
 heard_of cell burst row zero = nobody
@@ -38,9 +43,3 @@ who_is_heard cell burst count row = loudest (permitted (code_of burst) count) (s
 unfoldable pub hear_answer : ℕ → ℕ → ℕ → List Float → Answer Heard
 hear_answer cell burst count row =
     answer (first_of (hear_refusals cell burst count row)) (heard_of cell burst row (who_is_heard cell burst count row))
-
--- what each case of an answer says
-unfoldable pub said_hear : HearAnswer → Answer Heard
-said_hear (hear.Refused n) = refused n
-said_hear hear.Nobody = answered nobody
-said_hear (hear.User k re im) = answered (somebody k re im)

@@ -4,17 +4,18 @@
 ghost use Rattle.std.specs.Prelude.{◌≡◌, ◌≤◌, ◌+◌, ◌*◌, ltb, length, nat_abs};
 ghost use Rattle.std.specs.Float.{binary32};
 ghost use Rattle.std.specs.Float.Ieee.{of_int};
-ghost use Rattle.refusals.specs.Refusals.{answered};
+ghost use Rattle.refusals.specs.Refusals.{said_as};
 ghost use Rattle.codes.specs.Codes.{code_of};
 ghost use Rattle.samples.specs.Samples.{sample_of};
 ghost use Rattle.correlation.specs.Inside.{Samples, Signs, reach};
-ghost use Rattle.hearing.specs.Calls.{hear_answer, said_hear};
-ghost use Rattle.hearing.specs.Inside.{square, heard_as, loudest_in, heard_in};
+ghost use Rattle.hearing.specs.Calls.{hear_answer, heard_meant};
+ghost use Rattle.hearing.specs.Inside.{square, loudest_in, heard_in};
+
+use refusals::Refusal;
 
 // Who is heard: nobody, or a user with the real and the imaginary sum.
-#[derive(Clone, Copy)]
-pub enum HearAnswer {
-    Refused(u32),
+#[derive(Clone, Copy, Debug, PartialEq)]
+pub enum Heard {
     Nobody,
     User(u32, f32, f32),
 }
@@ -44,74 +45,47 @@ fn louder(best: u64, strength: u64) -> bool
     best < strength
 }
 
-// The answer about a user and the two sums; 0 stands for nobody.
-fn answer_of(who: u32, re: f32, im: f32) -> HearAnswer
-    ensures { said_hear result ≡ answered (heard_as who re im) }
-{
-    if who == 0 {
-        return HearAnswer::Nobody;
-    }
-    HearAnswer::User(who, re, im)
-}
-
 // Who is heard best of the users that a count permits, from the turned samples and the signs of the row: users from 1 up.
-fn best_heard(burst: u32, count: u32, re: &[f32], im: &[f32], signs: &[f32]) -> HearAnswer
+fn best_heard(burst: u32, count: u32, re: &[f32], im: &[f32], signs: &[f32]) -> Heard
     requires burst_in_bounds { ((code_of burst).length ≤ length re.now) × ((code_of burst).length ≤ length im.now) × (reach burst ≤ length signs.now) }
     requires samples { Samples re.now (code_of burst).length × Samples im.now (code_of burst).length × Signs signs.now (reach burst) }
-    ensures { said_hear result ≡ answered (heard_in re.now im.now signs.now burst (loudest_in re.now im.now signs.now burst count (2 * (code_of burst).base))) }
+    ensures { heard_meant result ≡ heard_in re.now im.now signs.now burst (loudest_in re.now im.now signs.now burst count (2 * (code_of burst).base)) }
 {
     let code = codes::code_of(burst);
     let chips = code.length as usize;
-    let last = 2 * code.base;
-    let mut who: u32 = 0;
-    let mut best: u64 = 0;
-    let mut real: f32 = 0.0;
-    let mut imaginary: f32 = 0.0;
-    let mut user: u32 = 0;
-    while user < last {
-        user += 1;
+    let mut best = Heard::Nobody;
+    let mut strength = 0;
+    for user in 1..=2 * code.base {
         if codes::permits(burst, count, user) {
             let by = codes::shift(burst, user) as usize;
             let sums = correlation::user_sums(re, im, signs, by, chips);
-            let x = sums.re;
-            let y = sums.im;
-            let strength = strength_of(x, y);
-            if louder(best, strength) {
-                who = user;
-                best = strength;
-                real = x;
-                imaginary = y;
+            let found = strength_of(sums.re, sums.im);
+            if louder(strength, found) {
+                best = Heard::User(user, sums.re, sums.im);
+                strength = found;
             }
         }
     }
-    answer_of(who, real, imaginary)
+    best
 }
 
 // Who is on the air in a cell, by burst type and count: of the first 1,024 (type 2: 512) floats of `row`, real then imaginary, chip after chip; further floats are not read.
 // Refusals: 1, 2, 3, 11, 24.
-pub fn hear(cell: u32, burst: u32, count: u32, row: &[f32]) -> HearAnswer
-    ensures { said_hear result ≡ hear_answer cell burst count row.now }
+#[tactic(auto, unfolding(crate::specs::Calls::hear_refusals, crate::specs::Calls::hear_answer, conditions::specs::Conditions::bad_cell, conditions::specs::Conditions::too_short, refusals::specs::Refusals::first_of, refusals::specs::Refusals::answer, refusals::specs::Refusals::number_of))]
+pub fn hear(cell: u32, burst: u32, count: u32, row: &[f32]) -> Result<Heard, Refusal>
+    ensures { said_as heard_meant result ≡ hear_answer cell burst count row.now }
 {
     let chips = codes::code_of(burst).length as usize;
     let floats = 2 * chips;
-    let one = conditions::bad_cell(cell);
-    let two = conditions::bad_type(burst);
-    let three = conditions::bad_count(burst, count);
-    let short = row.len() < floats;
-    let n = refusals::or_refused(0, 1, one);
-    let n = refusals::or_refused(n, 2, two);
-    let n = refusals::or_refused(n, 3, three);
-    let n = refusals::or_refused(n, 11, short);
-    if n != 0 {
-        return HearAnswer::Refused(n);
-    }
-    if samples::bad_samples(row, floats) {
-        return HearAnswer::Refused(24);
-    }
+    Refusal::Cell.when(conditions::bad_cell(cell))?;
+    Refusal::BurstType.when(conditions::bad_type(burst))?;
+    Refusal::Count.when(conditions::bad_count(burst, count))?;
+    Refusal::ShortMemory.when(row.len() < floats)?;
+    Refusal::Sample.when(samples::bad_samples(row, floats))?;
     let mut re = [0.0f32; 512];
     let mut im = [0.0f32; 512];
     let mut signs = [0.0f32; 968];
     correlation::turn(row, chips, &mut re, &mut im);
     correlation::fill_signs(cell, burst, &mut signs);
-    best_heard(burst, count, &re, &im, &signs)
+    Ok(best_heard(burst, count, &re, &im, &signs))
 }

@@ -1,13 +1,9 @@
--- What the two calls of document 01's "Training sequences" answer, for all inputs: their refusals, what their enums say, their outcomes.
+-- What the two calls of document 01's "Training sequences" answer, for all inputs: their refusals and their outcomes.
 -- Cited by the promises of midamble_chip and midamble, and by the crate signal_card. Assumes nothing.
 use Rattle.std.specs.Prelude.{List, [], ◌∷◌, ◌++◌, ℕ, drop}
 use Rattle.conditions.specs.Conditions.{bad_midamble_chip, too_short}
 use Rattle.tables.specs.Tables.{user_refusals}
-use Rattle.refusals.specs.Refusals.{Answer, Outcome, Refusals, first_of, answer, after, refused, answered, ◌leaving◌}
-use Rattle.midambles.specs.declared.ChipAnswer.{ChipAnswer}
-use Rattle.midambles.specs.declared.ChipAnswer.TheVariants as chip
-use Rattle.midambles.specs.declared.MidambleAnswer.{MidambleAnswer}
-use Rattle.midambles.specs.declared.MidambleAnswer.TheVariants as midamble
+use Rattle.refusals.specs.Refusals.{Answer, Outcome, Refusals, first_of, answer, after, ◌leaving◌}
 use Rattle.midambles.specs.TrainingSequences.{chip_of, chips_of}
 use Rattle.codes.specs.Codes.{code_of}
 
@@ -27,12 +23,3 @@ unfoldable pub midamble_outcome : ℕ → ℕ → ℕ → ℕ → List ℕ → O
 midamble_outcome cell burst count user out =
     let n = first_of (midamble_refusals cell burst count user out) in
     answer n (code_of burst).length leaving after n out (chips_of cell burst user ++ drop (code_of burst).length out)
-
--- what each case of an answer says
-unfoldable pub said_chip : ChipAnswer → Answer ℕ
-said_chip (chip.Refused n) = refused n
-said_chip (chip.Power p) = answered p
-
-unfoldable pub said_midamble : MidambleAnswer → Answer ℕ
-said_midamble (midamble.Refused n) = refused n
-said_midamble (midamble.Written n) = answered n

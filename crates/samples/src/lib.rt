@@ -20,10 +20,8 @@ pub fn bad_samples(row: &[f32], count: usize) -> bool
     ensures { result ≡ bad_samples count row.now }
 {
     let mut good = true;
-    let mut i: usize = 0;
-    while i < count {
-        good = good & is_sample(row[i]);
-        i += 1;
+    for &x in &row[..count] {
+        good &= is_sample(x);
     }
     !good
 }

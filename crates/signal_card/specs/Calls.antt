@@ -1,16 +1,13 @@
--- What the two calls of document 02's C-12 answer, for all inputs: their refusals, what their enums say, their outcomes.
+-- What the two calls of document 02's C-12 answer, for all inputs: their refusals and their outcomes.
 -- Cited by the promises of pair and pairs. Assumes nothing.
 use Rattle.std.specs.Prelude.{List, [], ◌∷◌, ◌++◌, ℕ, ◌*◌, drop, Float}
 use Rattle.conditions.specs.Conditions.{too_short, bad_level}
 use Rattle.tables.specs.Tables.{user_refusals}
-use Rattle.refusals.specs.Refusals.{Answer, Outcome, Refusals, first_of, answer, after, refused, answered, ◌leaving◌}
+use Rattle.refusals.specs.Refusals.{Answer, Outcome, Refusals, first_of, answer, after, ◌leaving◌}
 use Rattle.codes.specs.Codes.{code_of}
 use Rattle.midambles.specs.TrainingSequences.{chip_of, chips_of}
 use Rattle.midambles.specs.Calls.{chip_refusals}
-use Rattle.signal_card.specs.declared.PairAnswer.{PairAnswer}
-use Rattle.signal_card.specs.declared.PairAnswer.TheVariants as pair
-use Rattle.signal_card.specs.declared.PairsAnswer.{PairsAnswer}
-use Rattle.signal_card.specs.declared.PairsAnswer.TheVariants as pairs
+use Rattle.signal_card.specs.declared.ComplexChip.{ComplexChip}
 use Rattle.signal_card.specs.SignalCard.{real_of, imaginary_of, floats_of}
 
 -- one chip: those of document 01's chip, and "22 for another level, last in order"
@@ -23,6 +20,10 @@ pair_answer cell burst count user i a =
     let p = chip_of cell burst user i in
     answer (first_of (pair_refusals cell burst count user i a)) (real_of a p, imaginary_of a p)
 
+-- what a chip's struct means
+abbrev pub parts_of : ComplexChip → Float × Float
+parts_of c = (c.re, c.im)
+
 -- a whole midamble: two floats for each chip, and 22 last
 unfoldable pub pairs_refusals : ℕ → ℕ → ℕ → ℕ → ℕ → List Float → Refusals
 pairs_refusals cell burst count user a out =
@@ -34,12 +35,3 @@ pairs_outcome cell burst count user a out =
     let n = first_of (pairs_refusals cell burst count user a out) in
     let floats = 2 * (code_of burst).length in
     answer n floats leaving after n out (floats_of a (chips_of cell burst user) ++ drop floats out)
-
--- what each case of an answer says
-unfoldable pub said_pair : PairAnswer → Answer (Float × Float)
-said_pair (pair.Refused n) = refused n
-said_pair (pair.Pair c) = answered (c.re, c.im)
-
-unfoldable pub said_pairs : PairsAnswer → Answer ℕ
-said_pairs (pairs.Refused n) = refused n
-said_pairs (pairs.Written n) = answered n

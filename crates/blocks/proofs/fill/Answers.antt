@@ -10,24 +10,24 @@ use Rattle.blocks.proofs.fill.Goals as goal
 pub returns-then-chips-eq0 : goal.returns-then-chips-eq0
 returns-then-chips-eq0 c =
     let a = c.args in
-    none_in a.place a.chips a.out.now c.requires.3 c.if-chips-eq0.true
+    none_in a.place.now a.chips a.out.now c.requires.3 c.if-chips-eq0.true
 
 pub overflow_add-by : goal.overflow_add-by
 overflow_add-by c =
     let a = c.args in
     let q = c.requires in
-    record { fits = omega (arith, c.shift.ensures, shift_low a.place.burst a.place.user q.1, q.2, length_high a.place.burst) }
+    record { fits = omega (arith, c.shift.ensures, shift_low a.place.now.burst a.place.now.user q.1, q.2, length_high a.place.now.burst) }
 
 pub fill_elements-requires : goal.fill_elements-requires
 fill_elements-requires c =
     let a = c.args in
     let q = c.requires in
-    let some = few a.place a.chips a.out.now q.3 in
-    let high = length_high a.place.burst in
-    (q.0, omega (arith, c.shift.ensures, shift_low a.place.burst a.place.user q.1, q.2, high), omega (arith, some.0, high), some.1)
+    let some = few a.place.now a.chips a.out.now q.3 in
+    let high = length_high a.place.now.burst in
+    (q.0, omega (arith, c.shift.ensures, shift_low a.place.now.burst a.place.now.user q.1, q.2, high), omega (arith, some.0, high), some.1)
 
 pub returns : goal.returns
 returns c =
     let a = c.args in
     let q = c.requires in
-    read_on a.place a.chips _ a.out.now _ q.2 q.3 (ap (λ (n : ℕ). n + a.place.written) c.shift.ensures) c.fill_elements.ensures
+    read_on a.place.now a.chips _ a.out.now _ q.2 q.3 (ap (λ (n : ℕ). n + a.place.now.written) c.shift.ensures) c.fill_elements.ensures

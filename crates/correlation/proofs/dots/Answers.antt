@@ -2,7 +2,7 @@
 use borrow.Author.Rules.{rules}
 use mathlib.Core.Path.{◌≡◌, refl, ap, ◌∙◌}
 use mathlib.Core.List.{List}
-use Prim.Native.Nat.{ℕ, ◌+◌, ◌-◌, ◌*◌, ◌/◌, ◌^◌, ◌≤◌, ◌<◌}
+use Prim.Native.Nat.{ℕ, ◌+◌, ◌-◌, ◌*◌, ◌^◌, ◌≤◌, ◌<◌}
 use native.Mathlib.Omega.{arith}
 use borrow.Author.Count.{below_none}
 use lib.ListN.{get_or, set, replicate, length-set, get_or-replicate}
@@ -31,75 +31,71 @@ done : (z b : List Float) (by t u l : ℕ) (columns : List Float) → l ≡ 32 �
 done z b by t u l columns all rows held = (held.0, (λ k h. held.1.0 k (omega arith) ∙ ap (λ (n : ℕ). of_int binary32 (column 32 (term z b by) k n)) rows))
 
 -- ---- when no float is left: the columns of z are whole numbers, and their total is the sum
-module _ (z b : List Float) (by count : ℕ) (samples : Samples z count) (signs : Signs b (by + count)) (few : count ≤ 512) (m : ℕ) (columns : List Float) (all : 32 * (m / 32) ≡ count) (held : Columns z b by (m / 32) columns) where
+module _ (z b : List Float) (by count : ℕ) (samples : Samples z count) (signs : Signs b (by + count)) (few : count ≤ 512) (t : ℕ) (columns : List Float) (all : 32 * t ≡ count) (held : Columns z b by t columns) where
   all_whole : Wholes columns 32 (2 ^ 18)
-  all_whole = columns_whole z b by count samples signs (m / 32) columns all few held.1
+  all_whole = columns_whole z b by count samples signs t columns all few held.1
 
   all_total : total (λ (l : ℕ). sample_of (get_or columns (l - 1) nan)) 32 ≡ dot_of z b by count
-  all_total = columns_total z b by count samples signs (m / 32) columns all few held.1
+  all_total = columns_total z b by count samples signs t columns all few held.1
 
-pub loop-m-init : goal.loop-m-init
-loop-m-init c =
+pub loop-t-init : goal.loop-t-init
+loop-t-init c =
     let a = c.args in
-    (omega arith, refl, at_first a.x.now a.b.now a.by, at_first a.y.now a.b.now a.by)
+    (at_first a.x.now a.b.now a.by, at_first a.y.now a.b.now a.by)
 
 pub loop-l-init : goal.loop-l-init
 loop-l-init c =
     let a = c.args in
-    let t = c.loop-m.m / 32 in
-    let inv = c.loop-m.invariant in
-    (omega arith, begun a.x.now a.b.now a.by t c.loop-m.real inv.2, begun a.y.now a.b.now a.by t c.loop-m.imaginary inv.3)
+    let inv = c.loop-t.invariant in
+    (begun a.x.now a.b.now a.by c.loop-t.t c.loop-t.real inv.0, begun a.y.now a.b.now a.by c.loop-t.t c.loop-t.imaginary inv.1)
 
 pub loop-l-preserved : goal.loop-l-preserved
 loop-l-preserved c =
     let a = c.args in
     let p = c.requires in
+    let t = c.loop-t.t in
     let inv = c.loop-l.invariant in
-    let room : c.loop-m.m + 32 ≤ a.count = omega arith in
-    let rows : c.loop-m.m ≡ 32 * (c.loop-m.m / 32) = omega arith in
+    let room : 32 * t + 32 ≤ a.count = omega arith in
     let low : c.loop-l.l < 32 = omega arith in (
-      omega arith,
-      more a.x.now a.b.now a.by a.count p.samples.0 p.samples.2 c.loop-m.m c.loop-l.l (c.loop-m.m / 32) c.loop-l.real rows room p.count_bound.0 low inv.1,
-      more a.y.now a.b.now a.by a.count p.samples.1 p.samples.2 c.loop-m.m c.loop-l.l (c.loop-m.m / 32) c.loop-l.imaginary rows room p.count_bound.0 low inv.2,
+      more a.x.now a.b.now a.by a.count p.samples.0 p.samples.2 (32 * t) c.loop-l.l t c.loop-l.real refl room p.count_bound.0 low inv.0,
+      more a.y.now a.b.now a.by a.count p.samples.1 p.samples.2 (32 * t) c.loop-l.l t c.loop-l.imaginary refl room p.count_bound.0 low inv.1,
     )
 
-pub loop-m-preserved : goal.loop-m-preserved
-loop-m-preserved c =
+pub loop-t-preserved : goal.loop-t-preserved
+loop-t-preserved c =
     let a = c.args in
+    let t = c.loop-t.t in
     let inv = c.loop-l.invariant in
-    let all : c.loop-l.l ≡ 32 = omega arith in
-    let rows : c.loop-m.m / 32 + 1 ≡ (c.loop-m.m + 32) / 32 = omega arith in (
-      omega arith,
-      omega arith,
-      done a.x.now a.b.now a.by (c.loop-m.m / 32) ((c.loop-m.m + 32) / 32) c.loop-l.l c.loop-l.real all rows inv.1,
-      done a.y.now a.b.now a.by (c.loop-m.m / 32) ((c.loop-m.m + 32) / 32) c.loop-l.l c.loop-l.imaginary all rows inv.2,
+    let all : c.loop-l.l ≡ 32 = omega arith in (
+      done a.x.now a.b.now a.by t (t + 1) c.loop-l.l c.loop-l.real all refl inv.0,
+      done a.y.now a.b.now a.by t (t + 1) c.loop-l.l c.loop-l.imaginary all refl inv.1,
     )
 
 pub joined-re-requires : goal.joined-re-requires
 joined-re-requires c =
     let a = c.args in
     let p = c.requires in
-    let inv = c.loop-m.invariant in
-    let all : 32 * (c.loop-m.m / 32) ≡ a.count = omega arith in
-    (search rules, all_whole a.x.now a.b.now a.by a.count p.samples.0 p.samples.2 p.count_bound.0 c.loop-m.m c.loop-m.real all inv.2)
+    let inv = c.loop-t.invariant in
+    let all : 32 * c.loop-t.t ≡ a.count = omega arith in
+    (search rules, all_whole a.x.now a.b.now a.by a.count p.samples.0 p.samples.2 p.count_bound.0 c.loop-t.t c.loop-t.real all inv.0)
 
 pub joined-im-requires : goal.joined-im-requires
 joined-im-requires c =
     let a = c.args in
     let p = c.requires in
-    let inv = c.loop-m.invariant in
-    let all : 32 * (c.loop-m.m / 32) ≡ a.count = omega arith in
-    (search rules, all_whole a.y.now a.b.now a.by a.count p.samples.1 p.samples.2 p.count_bound.0 c.loop-m.m c.loop-m.imaginary all inv.3)
+    let inv = c.loop-t.invariant in
+    let all : 32 * c.loop-t.t ≡ a.count = omega arith in
+    (search rules, all_whole a.y.now a.b.now a.by a.count p.samples.1 p.samples.2 p.count_bound.0 c.loop-t.t c.loop-t.imaginary all inv.1)
 
 pub returns : goal.returns
 unfolding sums_of
 returns c =
     let a = c.args in
     let s = c.requires in
-    let inv = c.loop-m.invariant in
-    let all : 32 * (c.loop-m.m / 32) ≡ a.count = omega arith in
+    let inv = c.loop-t.invariant in
+    let all : 32 * c.loop-t.t ≡ a.count = omega arith in
     let p =
-    c.joined-re.ensures ∙ ap (of_int binary32) (all_total a.x.now a.b.now a.by a.count s.samples.0 s.samples.2 s.count_bound.0 c.loop-m.m c.loop-m.real all inv.2) in
+    c.joined-re.ensures ∙ ap (of_int binary32) (all_total a.x.now a.b.now a.by a.count s.samples.0 s.samples.2 s.count_bound.0 c.loop-t.t c.loop-t.real all inv.0) in
     let q =
-    c.joined-im.ensures ∙ ap (of_int binary32) (all_total a.y.now a.b.now a.by a.count s.samples.1 s.samples.2 s.count_bound.0 c.loop-m.m c.loop-m.imaginary all inv.3) in
+    c.joined-im.ensures ∙ ap (of_int binary32) (all_total a.y.now a.b.now a.by a.count s.samples.1 s.samples.2 s.count_bound.0 c.loop-t.t c.loop-t.imaginary all inv.1) in
     λ j. record { re = p j; im = q j }

@@ -1,7 +1,7 @@
 -- `correlation::dots` meets its contract: before each turn every column has the float of its own whole-number sum; then these are added. Assumes nothing.
 use mathlib.Core.Path.{◌≡◌}
 use mathlib.Core.List.{List}
-use Prim.Native.Nat.{ℕ, ◌+◌, ◌-◌, ◌/◌, ◌%◌, ◌≤◌, ◌<◌}
+use Prim.Native.Nat.{ℕ, ◌+◌, ◌<◌}
 use lib.ListN.{length, get_or}
 use lib.Ieee.{Float, nan, binary32, of_int}
 use Rattle.sums.proofs.Totals.{column}
@@ -17,13 +17,7 @@ abbrev pub More : List Float → List Float → ℕ → ℕ → ℕ → List Flo
 More z b by t l columns = (length columns ≡ 32) × Some columns (λ k. column 32 (term z b by) k t) (λ k. column 32 (term z b by) k (t + 1)) l
 
 abbrev pub invariant-loop-l : goal.invariant-loop-l
-invariant-loop-l l = (l.l ≤ 32) × More l.x l.b l.by (l.m / 32) l.l l.real × More l.y l.b l.by (l.m / 32) l.l l.imaginary
+invariant-loop-l l = More l.x l.b l.by l.t l.l l.real × More l.y l.b l.by l.t l.l l.imaginary
 
-abbrev pub decreases-loop-l : goal.decreases-loop-l
-decreases-loop-l l = 32 - l.l
-
-abbrev pub invariant-loop-m : goal.invariant-loop-m
-invariant-loop-m l = (l.m ≤ l.count) × (l.m % 32 ≡ 0) × Columns l.x l.b l.by (l.m / 32) l.real × Columns l.y l.b l.by (l.m / 32) l.imaginary
-
-abbrev pub decreases-loop-m : goal.decreases-loop-m
-decreases-loop-m l = l.count - l.m
+abbrev pub invariant-loop-t : goal.invariant-loop-t
+invariant-loop-t l = Columns l.x l.b l.by l.t l.real × Columns l.y l.b l.by l.t l.imaginary

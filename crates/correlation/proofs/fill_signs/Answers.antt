@@ -24,8 +24,7 @@ fill_elements-requires c =
 pub signs_of-requires : goal.signs_of-requires
 signs_of-requires c =
     let code = c.code_of-code in
-    let few = period-is c.args.burst code.result code.ensures in
-    let powers = c.fill_elements.ensures in record { count_in_bounds = (run_room _ _ _ _ powers, search rules, few.1.1); by_index = filled_low c.args.cell c.args.burst _ _ code.result.period powers }
+    let powers = c.fill_elements.ensures in record { count_in_bounds = (run_room _ _ _ _ powers, search rules); by_index = filled_low c.args.cell c.args.burst _ _ code.result.period powers }
 
 pub repeat-requires : goal.repeat-requires
 repeat-requires c =

@@ -13,7 +13,7 @@ use Rattle.correlation.proofs.Halves.{sum_of_two}
 use Rattle.correlation.proofs.halve.Goals as goal
 
 pub loop-k-init : goal.loop-k-init
-loop-k-init c = (omega arith, refl, below_none _, (λ j h. refl))
+loop-k-init c = (refl, below_none _, (λ j h. refl))
 
 pub loop-k-preserved : goal.loop-k-preserved
 loop-k-preserved c =
@@ -22,15 +22,14 @@ loop-k-preserved c =
     let half = c.args.half in
     let was = c.args.columns.now in
     let p = c.requires in (
-      omega arith,
-      length-set c.loop-k.columns k _ ∙ inv.1,
-      store (λ (j : ℕ) (x : Float). x ≡ of_int binary32 (sample_of (get_or was j nan) +ℤ sample_of (get_or was (j + half) nan))) c.loop-k.columns k _ (omega arith) inv.2
-          (sum_of_two was (2 * half) k (k + half) _ _ p.2 (omega arith) (omega arith) (inv.3 k (omega arith)) (inv.3 (k + half) (omega arith))),
-      (λ j h. get_or-set_other c.loop-k.columns k j _ nan (λ same. absurd (omega arith)) ∙ inv.3 j (omega arith)),
+      length-set c.loop-k.columns k _ ∙ inv.0,
+      store (λ (j : ℕ) (x : Float). x ≡ of_int binary32 (sample_of (get_or was j nan) +ℤ sample_of (get_or was (j + half) nan))) c.loop-k.columns k _ (omega arith) inv.1
+          (sum_of_two was (2 * half) k (k + half) _ _ p.2 (omega arith) (omega arith) (inv.2 k (omega arith)) (inv.2 (k + half) (omega arith))),
+      (λ j h. get_or-set_other c.loop-k.columns k j _ nan (λ same. absurd (omega arith)) ∙ inv.2 j (omega arith)),
     )
 
 pub shape_of-columns : goal.shape_of-columns
-shape_of-columns c = c.loop-k.invariant.1
+shape_of-columns c = c.loop-k.invariant.0
 
 pub returns : goal.returns
-returns c = λ k h. c.loop-k.invariant.2 k (omega arith)
+returns c = λ k h. c.loop-k.invariant.1 k (omega arith)

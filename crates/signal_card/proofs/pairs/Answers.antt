@@ -1,34 +1,37 @@
--- `signal_card::pairs` meets its promise: each `return` is a law of Answers, handed what the callees ensure and how the test went.
+-- `signal_card::pairs` meets its promise: of the chips that were filled in, those of the midamble are the user's, and each is a power of j.
 -- Assumes nothing.
-use mathlib.Core.Path.{ap}
+use mathlib.Core.Path.{sym, ap}
 use native.Mathlib.Omega.{arith}
-use lib.ListN.{length}
+use Rattle.std.proofs.lemmas.List.{length-take, length-take-le, get_or-take}
+use Rattle.std.proofs.lemmas.Grind.{common_steps}
+use Rattle.refusals.specs.Refusals.{first_of, answer, after}
+use Rattle.conditions.specs.Conditions.{too_short, bad_level}
 use Rattle.codes.specs.declared.Code.{Code}
-use Rattle.codes.proofs.Numbers.{length_high, shift_low}
-use Rattle.signal_card.proofs.Answers.{pairs_refused, pairs_passed, pairs_room, pairs_level, pairs_written, filled_below, run_room}
+use Rattle.midambles.proofs.Answers.{user_refused, answer_number, after_number, user_steps}
+use Rattle.signal_card.specs.Calls.{pairs_refusals, pairs_outcome}
+use Rattle.signal_card.proofs.Answers.{filled_below, run_room, chips_taken}
 use Rattle.signal_card.proofs.pairs.Goals as goal
 
-pub returns-then-n-ne0 : goal.returns-then-n-ne0
-returns-then-n-ne0 c = pairs_refused _ _ _ _ _ _ _ _ _ c.args.out.now _ c.code_of-length.ensures c.bad_level-bad.ensures c.user_refusal-n.ensures c.or_refused-n.ensures c.or_refused-n-2.ensures c.if-n-ne0.true
+pub returns-in_err-check_user : goal.returns-in_err-check_user
+unfolding pairs_outcome pairs_refusals
+returns-in_err-check_user c = grind (arith, common_steps, user_refused, answer_number, after_number)
 
-pub fill_chips-requires : goal.fill_chips-requires
-fill_chips-requires c =
-    let burst = c.args.burst in
-    omega (arith, ((pairs_passed _ _ _ _ _ _ _ _ _ c.args.out.now _ c.code_of-length.ensures c.bad_level-bad.ensures c.user_refusal-n.ensures c.or_refused-n.ensures c.or_refused-n-2.ensures c.if-n-ne0.false)).cell_high, c.shift-by.ensures, shift_low burst _ ((pairs_passed _ _ _ _ _ _ _ _ _ c.args.out.now _ c.code_of-length.ensures c.bad_level-bad.ensures c.user_refusal-n.ensures c.or_refused-n.ensures c.or_refused-n-2.ensures c.if-n-ne0.false)).user_low, length_high burst)
+pub slice_bounds-fill-end : goal.slice_bounds-fill-end
+slice_bounds-fill-end c =
+    let same = ap (λ (x : Code). x.length) c.code_of-length.ensures in
+    let room = run_room _ _ _ _ c.fill_chips.ensures in
+    sym (length-take-le _ _ (omega arith))
 
-pub fill-requires : goal.fill-requires
-fill-requires c =
-    let burst = c.args.burst in
-    let same = (ap (λ (x : Code). x.length) c.code_of-length.ensures) in
-    let chips = run_room _ _ _ _ c.fill_chips.ensures in
-    let powers = filled_below _ _ _ _ _ _ c.fill_chips.ensures in
-    record { le_level = (pairs_level _ _ _ _ _ _ _ _ _ c.args.out.now _ c.code_of-length.ensures c.bad_level-bad.ensures c.user_refusal-n.ensures c.or_refused-n.ensures c.or_refused-n-2.ensures c.if-n-ne0.false); count_bound = (omega (arith, same, length_high burst), omega (arith, same, chips), omega (arith, same, (pairs_room _ _ _ _ _ _ _ _ _ c.args.out.now _ c.code_of-length.ensures c.bad_level-bad.ensures c.user_refusal-n.ensures c.or_refused-n.ensures c.or_refused-n-2.ensures c.if-n-ne0.false))); by_index = (λ k h. powers k (omega (arith, same, h))) }
-
-pub overflow_mul-result : goal.overflow_mul-result
-overflow_mul-result c =
-    let low = length_high c.args.burst in
-    record { fits = omega (arith, (ap (λ (x : Code). x.length) c.code_of-length.ensures), low) }
+pub fill-requires-clause-powers : goal.fill-requires-clause-powers
+fill-requires-clause-powers c = λ k h.
+    let same = ap (λ (x : Code). x.length) c.code_of-length.ensures in
+    let few = length-take c.code_of-length.result.length c.fill_chips.new.out in
+    let here = get_or-take c.code_of-length.result.length c.fill_chips.new.out k 0 (omega arith) in
+    omega (arith, here, filled_below _ _ _ _ _ _ c.fill_chips.ensures k (omega arith))
 
 pub returns : goal.returns
+unfolding pairs_refusals pairs_outcome too_short bad_level first_of answer after
 returns c =
-    pairs_written _ _ _ _ _ _ _ _ _ c.args.out.now _ c.code_of-length.ensures c.bad_level-bad.ensures c.user_refusal-n.ensures c.or_refused-n.ensures c.or_refused-n-2.ensures c.if-n-ne0.false _ _ _ _ c.shift-by.ensures c.fill_chips.ensures c.fill.ensures
+    let a = c.args in
+    let chips = chips_taken a.cell a.burst a.user _ _ _ _ c.shift-by.ensures (ap (λ (x : Code). x.length) c.code_of-length.ensures) c.fill_chips.ensures in
+    grind (arith, common_steps, user_steps, chips)

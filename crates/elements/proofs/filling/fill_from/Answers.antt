@@ -7,14 +7,14 @@ pub fill_piece-requires-2 : goal.fill_piece-requires-2
 fill_piece-requires-2 c =
     let a = c.args in
     let begun = c.before_digit.ensures in
-    let least = c.lesser-first.ensures in
+    let least = c.min-first.ensures in
     let middle = whole_digits _ _ _ _ _ begun least _ _ _ c.fill_piece.ensures c.fill_digits.ensures in
-    record { powers_value = (c.digit_powers-powers.ensures, c.requires.row.0); count_bound = (last_piece a.row.now _ _ _ _ begun least, room_behind _ _ _ _ _ begun least a.out.now _ c.requires.count_bound.1 middle) }
+    (last_piece a.row.bytes.now _ _ _ _ begun least, room_behind _ _ _ _ _ begun least a.out.now _ c.requires middle)
 
 pub returns : goal.returns
 returns c =
     let a = c.args in
     let begun = c.before_digit.ensures in
-    let least = c.lesser-first.ensures in
+    let least = c.min-first.ensures in
     let middle = whole_digits _ _ _ _ _ begun least _ _ _ c.fill_piece.ensures c.fill_digits.ensures in
     piece_behind _ _ _ _ _ begun least a.out.now _ _ middle c.fill_piece-2.ensures

@@ -1,4 +1,3 @@
 pub mod Passed
 pub mod Places
-pub mod Lent
 pub mod Unique

@@ -1,20 +1,22 @@
 -- The refusals that all calls begin with, and what a call knows once none of them holds: the length is 2, 4 or 8, and runs of it fill a half.
--- Cited by the four calls' proofs. Assumes nothing.
+-- Cited by the proof of `Frame::of` and by the theorems of `paging_back`. Assumes nothing.
 use mathlib.Core.Path.{◌≡◌, refl}
 use mathlib.Core.Bool.{Bool, true, false, cond, not, ◌||◌}
-use mathlib.Core.List.{[], ◌∷◌, map}
+use mathlib.Core.List.{List, [], ◌∷◌, map}
 use Prim.Native.Nat.{ℕ, ◌*◌, ◌/◌, ◌≤◌}
-use lib.Dec.{T, eqb, leb, leb→le, eqb→eq}
-use borrow.Author.Tests.{not-false}
+use lib.Dec.{T, eqb, leb, ltb, leb→le, eqb→eq}
+use lib.ListN.{length}
+use borrow.Author.Tests.{not-false, ltb-false}
 use Rattle.laws.proofs.Bools.{or_false}
 use Rattle.laws.proofs.Cases.{one_of}
-use Rattle.conditions.specs.Conditions.{bad_type, bad_pich}
+use Rattle.conditions.specs.Conditions.{bad_type, bad_pich, too_short}
 use Rattle.tables.specs.Tables.{pich_refusals}
 use Rattle.refusals.specs.Refusals.{first_of}
-use Rattle.refusals.proofs.First.{numbered, first_none}
+use Rattle.refusals.proofs.First.{numbered, first_none, append_none}
 use Rattle.paging_bits.specs.Bits.{per_frame}
-use Rattle.paging_bits.specs.Inside.{Fits}
+use Rattle.paging_bits.specs.Inside.{Fits, Holds}
 use Rattle.paging.specs.Paging.{carrying_of, half_of}
+use Rattle.paging.specs.Calls.{frame_refusals}
 
 -- runs of length L in a half of H bits, each condition a computed test
 fit : (L H : ℕ) → T (leb 1 L) → T (leb L 8) → T (leb 1 (H / L)) → T (eqb (H / L * L) H) → Fits L (per_frame L H) H
@@ -48,6 +50,15 @@ fits burst L e = fits_length burst L (first_none 9 (bad_pich burst L) [] (first_
 pub pich_numbered : (burst L : ℕ) → T (numbered (pich_refusals burst L))
 unfolding pich_refusals
 pich_numbered burst L = tt
+
+-- a call on a frame's bytes that is not refused, which reads `need` of `given` and writes `room` of `out`
+pub lent_passed : (burst L need : ℕ) (given : List ℕ) (room : ℕ) (out : List ℕ) → first_of (frame_refusals burst L need given room out) ≡ 0
+    → Fits L (per_frame L (half_of burst)) (half_of burst) × Holds given need × Holds out room
+unfolding too_short
+lent_passed burst L need given room out z =
+    let none = append_none (pich_refusals burst L) 10 _ (pich_numbered burst L) z in
+    let long = or_false (ltb (length given) need) (ltb (length out) room) none.1 in
+    (fits burst L none.0, ltb-false _ _ long.0, ltb-false _ _ long.1)
 
 -- "a timeslot holds 60, 30, 15 (type 1) or 68, 34, 17 (type 2) for L = 2, 4, 8"
 pub per_frame_table : map (λ (burst : ℕ). map (λ (L : ℕ). per_frame L (half_of burst)) (2 ∷ 4 ∷ 8 ∷ [])) (1 ∷ 2 ∷ []) ≡ (60 ∷ 30 ∷ 15 ∷ []) ∷ (68 ∷ 34 ∷ 17 ∷ []) ∷ []

@@ -1,4 +1,4 @@
--- Who owns a place of each kind. Cited by the proof of `owner` and by the theorems of `paging_back`.
+-- Who owns a place of each kind. Cited by the theorems of `paging_back`.
 -- Assumes nothing.
 use mathlib.Core.Path.{◌≡◌}
 use Prim.Native.Nat.{ℕ, ◌+◌, ◌-◌, ◌/◌, ◌<◌, ◌≤◌}

@@ -1,54 +1,42 @@
 -- No second reply and no second memory satisfies a promise, and no promise asks anything: `Post` and `Pre` are what rattle reads of each call's contract,
 -- at arguments a, reply r and exit s. Assumes nothing.
-use mathlib.Core.Path.{◌≡◌, sym, ◌∙◌}
+use mathlib.Core.Path.{◌≡◌, refl, sym, ap, ◌∙◌}
 use Rattle.refusals.proofs.First.{leaving_parts}
-use Rattle.paging.specs.declared.IndicatorAnswer.{IndicatorAnswer}
-use Rattle.paging.specs.declared.IndicatorAnswer.TheVariants as placing
-use Rattle.paging.specs.declared.OwnerAnswer.{OwnerAnswer}
-use Rattle.paging.specs.declared.OwnerAnswer.TheVariants as owning
-use Rattle.paging.specs.declared.PageAnswer.{PageAnswer}
-use Rattle.paging.specs.declared.PageAnswer.TheVariants as writing
-use Rattle.paging.specs.declared.ReadPageAnswer.{ReadPageAnswer}
-use Rattle.paging.specs.declared.ReadPageAnswer.TheVariants as hearing
-use Rattle.paging.specs.Calls.{said_indicator, said_owner, said_page, said_read_page}
+use Rattle.std.specs.Prelude.{Option, Some, None, Result}
+use Prim.Native.Nat.{ℕ}
+use Rattle.refusals.specs.declared.Refusal.{Refusal}
+use Rattle.refusals.specs.Refusals.{said_as}
+use Rattle.refusals.proofs.Numbers.{said_once, said_as_once}
+use Rattle.paging.specs.declared.IndicatorPlace.{IndicatorPlace}
+use Rattle.paging.specs.Paging.{Place, place, ◌bitsFrom◌}
+use Rattle.paging.specs.Calls.{said_place, said_owner}
 use Rattle.paging.proofs.indicator.Reads as indicator
 use Rattle.paging.proofs.owner.Reads as owner
 use Rattle.paging.proofs.page.Reads as page
 use Rattle.paging.proofs.read_page.Reads as readPage
 
 -- two answers that say the same are the same
-pub said_indicator_once : (r r' : IndicatorAnswer) → said_indicator r ≡ said_indicator r' → r ≡ r'
-unfolding said_indicator
-said_indicator_once (placing.Refused n) (placing.Refused m) e = cc
-said_indicator_once (placing.Refused n) (placing.Placed f q a b l) e = cc
-said_indicator_once (placing.Placed f q a b l) (placing.Refused n) e = cc
-said_indicator_once (placing.Placed f q a b l) (placing.Placed f' q' a' b' l') e = cc
+place_in : Place → IndicatorPlace
+place_in (place f q (L bitsFrom a) (M bitsFrom b)) = record { frame = f; q = q; first = a; second = b; length = L }
 
-pub said_owner_once : (r r' : OwnerAnswer) → said_owner r ≡ said_owner r' → r ≡ r'
-unfolding said_owner
-said_owner_once (owning.Refused n) (owning.Refused m) e = cc
-said_owner_once (owning.Refused n) owning.Reserved e = cc
-said_owner_once (owning.Refused n) (owning.Owned q) e = cc
-said_owner_once owning.Reserved (owning.Refused m) e = cc
-said_owner_once owning.Reserved owning.Reserved e = cc
-said_owner_once owning.Reserved (owning.Owned q) e = cc
-said_owner_once (owning.Owned q) (owning.Refused m) e = cc
-said_owner_once (owning.Owned q) owning.Reserved e = cc
-said_owner_once (owning.Owned q) (owning.Owned q') e = cc
+place_said : (v : IndicatorPlace) → place_in (said_place v) ≡ v
+unfolding place_in
+place_said v = refl
 
-pub said_page_once : (r r' : PageAnswer) → said_page r ≡ said_page r' → r ≡ r'
-unfolding said_page
-said_page_once (writing.Refused n) (writing.Refused m) e = cc
-said_page_once (writing.Refused n) (writing.Written m) e = cc
-said_page_once (writing.Written n) (writing.Refused m) e = cc
-said_page_once (writing.Written n) (writing.Written m) e = cc
+said_place_once : (v w : IndicatorPlace) → said_place v ≡ said_place w → v ≡ w
+said_place_once v w e = sym (place_said v) ∙ ap place_in e ∙ place_said w
 
-pub said_read_page_once : (r r' : ReadPageAnswer) → said_read_page r ≡ said_read_page r' → r ≡ r'
-unfolding said_read_page
-said_read_page_once (hearing.Refused n) (hearing.Refused m) e = cc
-said_read_page_once (hearing.Refused n) (hearing.Written m) e = cc
-said_read_page_once (hearing.Written n) (hearing.Refused m) e = cc
-said_read_page_once (hearing.Written n) (hearing.Written m) e = cc
+pub said_indicator_once : (r r' : Result IndicatorPlace Refusal) → said_as said_place r ≡ said_as said_place r' → r ≡ r'
+said_indicator_once r r' e = said_as_once said_place said_place_once r r' e
+
+said_option_once : (v w : Option ℕ) → said_owner v ≡ said_owner w → v ≡ w
+said_option_once None None e = cc
+said_option_once None (Some q) e = cc
+said_option_once (Some q) None e = cc
+said_option_once (Some q) (Some q') e = cc
+
+pub said_owner_once : (r r' : Result (Option ℕ) Refusal) → said_as said_owner r ≡ said_as said_owner r' → r ≡ r'
+said_owner_once r r' e = said_as_once said_owner said_option_once r r' e
 
 pub indicator_asks_nothing : (κs : _) (a : _) → indicator.Pre κs a
 indicator_asks_nothing κs a = tt
@@ -66,10 +54,10 @@ pub page_asks_nothing : (κs : _) (a : _) → page.Pre κs a
 page_asks_nothing κs a = tt
 
 pub page_unique : (κs : _) (a : _) (r r' : _) (s s' : _) → page.Post κs a r s → page.Post κs a r' s' → (r ≡ r') × (s.1.1.1.0.now ≡ s'.1.1.1.0.now)
-page_unique κs a r r' s s' p q = let e = leaving_parts _ _ _ _ (p ∙ sym q) in (said_page_once r r' e.0, e.1)
+page_unique κs a r r' s s' p q = let e = leaving_parts _ _ _ _ (p ∙ sym q) in (said_once r r' e.0, e.1)
 
 pub read_page_asks_nothing : (κs : _) (a : _) → readPage.Pre κs a
 read_page_asks_nothing κs a = tt
 
 pub read_page_unique : (κs : _) (a : _) (r r' : _) (s s' : _) → readPage.Post κs a r s → readPage.Post κs a r' s' → (r ≡ r') × (s.1.1.1.0.now ≡ s'.1.1.1.0.now)
-read_page_unique κs a r r' s s' p q = let e = leaving_parts _ _ _ _ (p ∙ sym q) in (said_read_page_once r r' e.0, e.1)
+read_page_unique κs a r r' s s' p q = let e = leaving_parts _ _ _ _ (p ∙ sym q) in (said_once r r' e.0, e.1)

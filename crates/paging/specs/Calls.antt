@@ -1,28 +1,20 @@
--- What the four calls answer and leave in lent memory, for all inputs: each one's table of refusals, what its enum says, and its whole outcome.
+-- What the four calls answer and leave in lent memory, for all inputs: each one's table of refusals, what its value says, and its whole outcome.
 -- Cited by their promises. Assumes nothing.
-use Rattle.std.specs.Prelude.{◌||◌, List, [], ◌∷◌, ◌++◌, ℕ, drop}
+use Rattle.std.specs.Prelude.{Option, Some, None, ◌||◌, List, [], ◌∷◌, ◌++◌, ℕ, drop}
 use Rattle.conditions.specs.Conditions.{bad_frames, bad_number, bad_bit, too_short}
 use Rattle.tables.specs.Tables.{pich_refusals}
-use Rattle.refusals.specs.Refusals.{Answer, refused, answered, Outcome, ◌leaving◌, Refusals, first_of, answer, after}
+use Rattle.refusals.specs.Refusals.{Answer, Outcome, ◌leaving◌, Refusals, first_of, answer, after}
 use Rattle.paging_bits.specs.Bits.{bits_in, per_frame, burst_of, readings_of}
-use Rattle.paging.specs.declared.IndicatorAnswer.{IndicatorAnswer}
-use Rattle.paging.specs.declared.IndicatorAnswer.TheVariants as indicator
-use Rattle.paging.specs.declared.OwnerAnswer.{OwnerAnswer}
-use Rattle.paging.specs.declared.OwnerAnswer.TheVariants as owner
-use Rattle.paging.specs.declared.PageAnswer.{PageAnswer}
-use Rattle.paging.specs.declared.PageAnswer.TheVariants as page
-use Rattle.paging.specs.declared.ReadPageAnswer.{ReadPageAnswer}
-use Rattle.paging.specs.declared.ReadPageAnswer.TheVariants as readPage
+use Rattle.paging.specs.declared.IndicatorPlace.{IndicatorPlace}
 use Rattle.paging.specs.Paging.{half_of, Place, place, ◌bitsFrom◌, place_of, Owner, reserved, owned, owner_at}
 
 -- "paging 2, 10": the number is below N times F
 unfoldable pub indicator_refusals : ℕ → ℕ → ℕ → ℕ → Refusals
 indicator_refusals burst L F PI = pich_refusals burst L ++ (10, bad_frames F) ∷ (10, bad_number (per_frame L (half_of burst)) F PI) ∷ []
 
--- a refusal, or where the indicator sits
-unfoldable pub said_indicator : IndicatorAnswer → Answer Place
-said_indicator (indicator.Refused n) = refused n
-said_indicator (indicator.Placed frame q first second L) = answered (place frame q (L bitsFrom first) (L bitsFrom second))
+-- where the indicator sits
+abbrev pub said_place : IndicatorPlace → Place
+said_place x = place x.frame x.q (x.length bitsFrom x.first) (x.length bitsFrom x.second)
 
 unfoldable pub indicator_answer : ℕ → ℕ → ℕ → ℕ → Answer Place
 indicator_answer burst L F PI = answer (first_of (indicator_refusals burst L F PI)) (place_of L (half_of burst) PI)
@@ -31,11 +23,10 @@ indicator_answer burst L F PI = answer (first_of (indicator_refusals burst L F P
 unfoldable pub owner_refusals : ℕ → ℕ → ℕ → Refusals
 owner_refusals burst L p = pich_refusals burst L ++ (10, bad_bit (bits_in (half_of burst)) p) ∷ []
 
--- a refusal, or who owns the bit
-unfoldable pub said_owner : OwnerAnswer → Answer Owner
-said_owner (owner.Refused n) = refused n
-said_owner owner.Reserved = answered reserved
-said_owner (owner.Owned q) = answered (owned q)
+-- who owns the bit
+abbrev pub said_owner : Option ℕ → Owner
+said_owner None = reserved
+said_owner (Some q) = owned q
 
 unfoldable pub owner_answer : ℕ → ℕ → ℕ → Answer Owner
 owner_answer burst L p = answer (first_of (owner_refusals burst L p)) (owner_at L (half_of burst) p)
@@ -50,21 +41,12 @@ frame_outcome burst L need given room made out =
     let n = first_of (frame_refusals burst L need given room out) in
     answer n room leaving after n out (made ++ drop room out)
 
--- a refusal, or how many bytes were written
-unfoldable pub said_page : PageAnswer → Answer ℕ
-said_page (page.Refused n) = refused n
-said_page (page.Written n) = answered n
-
 -- "Writing takes one frame's N settings (0 off, any other on) and gives 244 or 276 bytes of 0 or 1, in time order."
 unfoldable pub page_outcome : ℕ → ℕ → List ℕ → List ℕ → Outcome ℕ (List ℕ)
 page_outcome burst L settings out =
     let H = half_of burst in
     let N = per_frame L H in
     frame_outcome burst L N settings (bits_in H) (burst_of L N settings) out
-
-unfoldable pub said_read_page : ReadPageAnswer → Answer ℕ
-said_read_page (readPage.Refused n) = refused n
-said_read_page (readPage.Written n) = answered n
 
 -- "Reading writes one byte for each q"
 unfoldable pub read_page_outcome : ℕ → ℕ → List ℕ → List ℕ → Outcome ℕ (List ℕ)

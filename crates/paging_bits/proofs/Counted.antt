@@ -5,11 +5,13 @@ use mathlib.Core.Bool.{Bool, true, false, cond}
 use mathlib.Core.List.{List, ◌++◌}
 use mathlib.Core.Logic.{◌⊎◌, inl, inr, ⊎_elim}
 use Prim.Native.Nat.{ℕ, zero, suc, ◌+◌, ◌-◌, ◌*◌, ◌<◌, ◌≤◌}
-use native.Mathlib.Nat.{mul-suc}
+use native.Mathlib.Nat.{zero-add, mul_comm}
 use native.Mathlib.Numerals.{add-one}
 use native.Mathlib.Omega.{arith}
 use lib.Dec.{eqb}
 use lib.ListN.{get_or, length, set, drop}
+use Rattle.std.specs.List.{between}
+use Rattle.std.proofs.lemmas.List.Edits.{get_or-between}
 use borrow.Author.Tests.{lt-ltb, le-ltb}
 use Rattle.laws.specs.Runs.{run}
 use Rattle.laws.proofs.Runs.{run_turn}
@@ -29,14 +31,10 @@ as_bit_cases v = bit_cases (eqb v 0)
 pub as_bit_most : (v : ℕ) → as_bit v ≤ 1
 as_bit_most v = ⊎_elim (λ (e : as_bit v ≡ 0). omega arith) (λ (e : as_bit v ≡ 1). omega arith) (as_bit_cases v)
 
--- a turn of the count
-pub ones_none : (bits : List ℕ) (a : ℕ) → ones_from bits a 0 ≡ 0
+-- a turn of the count of a whole run
+pub ones_turn : (run : List ℕ) (n : ℕ) → ones_from run 0 (n + 1) ≡ ones_from run 0 n + as_bit (get_or run n 0)
 unfolding ones_from
-ones_none bits a = refl
-
-pub ones_turn : (bits : List ℕ) (a n : ℕ) → ones_from bits a (n + 1) ≡ ones_from bits a n + as_bit (get_or bits (a + n) 0)
-unfolding ones_from
-ones_turn bits a n = ap (λ (k : ℕ). ones_from bits a k) (add-one n)
+ones_turn run n = ap (λ (k : ℕ). ones_from run 0 k) (add-one n) ∙ ap (λ (k : ℕ). ones_from run 0 n + as_bit (get_or run k 0)) (zero-add n)
 
 pub ones_most : (bits : List ℕ) (a n : ℕ) → ones_from bits a n ≤ n
 unfolding ones_from
@@ -58,18 +56,29 @@ pub reading_runs : (L H : ℕ) (bits : List ℕ) (q : ℕ) → L * q < H
 unfolding reading_of
 reading_runs L H bits q h = simp (time_first H (L * q) h, time_second H (L * q))
 
--- of indicator q: its first run ends within the half, the next begins behind it, and what was counted is its reading
-pub run_ends : (L N H q p : ℕ) → Fits L N H → q < N → p ≡ L * q → p + L ≤ H
-run_ends L N H q p f h e = omega (arith, run_within L N q h, f.whole)
+-- the ones of a run, counted in the part of the bits that it is
+ones_between : (bits : List ℕ) (a n k : ℕ) → n ≤ k → ones_from (between a (a + k) bits) 0 n ≡ ones_from bits a n
+unfolding ones_from
+ones_between bits a zero k h = refl
+ones_between bits a (suc n) k h =
+    let at : get_or (between a (a + k) bits) (0 + n) 0 ≡ get_or bits (a + n) 0 =
+    ap (λ (j : ℕ). get_or (between a (a + k) bits) j 0) (zero-add n) ∙ get_or-between bits a (a + k) n 0 (omega arith) in
+    ap (λ (s : ℕ). s + as_bit (get_or (between a (a + k) bits) (0 + n) 0)) (ones_between bits a n k (omega arith))
+    ∙ ap (λ (v : ℕ). ones_from bits a n + as_bit v) at
 
-pub next_run : (L q p : ℕ) → p ≡ L * q → p + L ≡ L * (q + 1)
-next_run L q p e = omega (arith, ap (λ (n : ℕ). L * n) (add-one q), mul-suc L q)
-
-pub counted : (L N H q p x r : ℕ) (bits : List ℕ) → Fits L N H → q < N → p ≡ L * q → x ≡ ones_from bits p L + ones_from bits (H + 4 + p) L → r ≡ heard x (2 * L)
-    → r ≡ reading_of L H bits q
-counted L N H q p x r bits f h e both v =
-    v ∙ ap (λ (k : ℕ). heard k (2 * L)) (both ∙ ap (λ (a : ℕ). ones_from bits a L + ones_from bits (H + 4 + a) L) e)
-    ∙ sym (reading_runs L H bits q (omega (arith, run_ends L N H q p f h e, f.low)))
+-- of indicator q: what was counted in its two runs, of so many bits each, is its reading
+pub counted : (L N H q n x r : ℕ) (bits : List ℕ) → Fits L N H → q < N → n ≡ L
+    → x ≡ ones_from (between (q * L) (q * L + L) bits) 0 n + ones_from (between (H + 4 + q * L) (H + 4 + q * L + L) bits) 0 n → r ≡ heard x (2 * L) → r ≡ reading_of L H bits q
+counted L N H q n x r bits f h size both v =
+    let within : L * q + L ≤ H = omega (arith, run_within L N q h, f.whole) in
+    let same : q * L ≡ L * q = mul_comm q L in
+    v
+    ∙ ap (λ (k : ℕ). heard k (2 * L)) (both
+    ∙ ap (λ (k : ℕ). k + ones_from (between (H + 4 + q * L) (H + 4 + q * L + L) bits) 0 n) (ones_between bits (q * L) n L (omega arith))
+    ∙ ap (λ (k : ℕ). ones_from bits (q * L) n + k) (ones_between bits (H + 4 + q * L) n L (omega arith))
+    ∙ ap (λ (k : ℕ). ones_from bits k n + ones_from bits (H + 4 + k) n) same
+    ∙ ap (λ (k : ℕ). ones_from bits (L * q) k + ones_from bits (H + 4 + L * q) k) size)
+    ∙ sym (reading_runs L H bits q (omega (arith, within, f.low)))
 
 -- a turn of a loop that writes g n at place n
 pub row_turn : (g : ℕ → ℕ) (n v : ℕ) (d out : List ℕ) → n < length d → out ≡ run (λ (i : ℕ). g (i - 1)) n ++ drop n d → v ≡ g n

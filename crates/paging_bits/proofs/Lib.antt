@@ -1,4 +1,3 @@
 pub mod OneRun
-pub mod Put
 pub mod Runs
 pub mod Counted

@@ -1,6 +1,6 @@
 -- What the functions on a frame's bits ask of each other and of their callers in `paging`. No reader of a public promise has to believe it.
 -- Assumes nothing.
-use Rattle.std.specs.Prelude.{◌≡◌, List, ◌++◌, ℕ, ◌+◌, ◌*◌, ◌≤◌, length, take, drop}
+use Rattle.std.specs.Prelude.{◌≡◌, List, ℕ, ◌*◌, ◌≤◌, length}
 
 -- N short runs of L bits fill a half of H, and there are some
 pub record Fits (L N H : ℕ) : Type 0 where
@@ -12,7 +12,3 @@ pub record Fits (L N H : ℕ) : Type 0 where
 -- memory of at least n bytes
 abbrev pub Holds : List ℕ → ℕ → Type 0
 Holds memory n = n ≤ length memory
-
--- memory d with s put in from place a on
-abbrev pub put_at : ℕ → List ℕ → List ℕ → List ℕ
-put_at a s d = take a d ++ s ++ drop (a + length s) d

@@ -2,58 +2,29 @@
 // crate `paging`, whose calls have tested what they require.
 #![tactic(auto)]
 
-ghost use Rattle.std.specs.Prelude.{◌≡◌, ◌++◌, ◌+◌, ◌*◌, ◌≤◌, take, drop, replicate};
+ghost use Rattle.std.specs.Prelude.{◌≡◌, ◌++◌, ◌+◌, ◌*◌, ◌≤◌, length, drop};
 ghost use Rattle.paging_bits.specs.Bits.{bits_in, as_bit, runs_of, burst_of, ones_from, heard, readings_of};
-ghost use Rattle.paging_bits.specs.Inside.{Fits, Holds, put_at};
+ghost use Rattle.paging_bits.specs.Inside.{Fits, Holds};
 
 // What is written at a reserved bit.
 const RESERVED: u8 = 0;
 
 // A byte as a bit: 0 is 0, any other 1.
+#[tactic(auto, unfolding(crate::specs::Bits::as_bit))]
 fn as_bit(v: u8) -> u8
     ensures { result ≡ as_bit v }
 {
-    if v == 0 {
-        return 0;
-    }
-    1
+    u8::from(v != 0)
 }
 
-// A run: `count` bits of one value, from place `from` on.
-fn put_run(out: &mut [u8], from: usize, count: usize, v: u8)
-    requires { Holds out.old (from + count) }
-    ensures { out.new ≡ put_at from (replicate count v) out.old }
+// A run for each of `per` settings, one behind the other, into the first places of `out`.
+fn put_runs(length: usize, per: usize, settings: &[u8], out: &mut [u8])
+    requires { Holds settings.now per × Holds out.old (per * length) }
+    ensures { out.new ≡ runs_of length settings.now per ++ drop (per * length) out.old }
 {
-    let mut i: usize = 0;
-    while i < count {
-        out[from + i] = v;
-        i += 1;
-    }
-}
-
-// A run for each of `number` settings, one behind the other, from place `from` on.
-fn put_runs(length: usize, number: usize, settings: &[u8], from: usize, out: &mut [u8])
-    requires { Holds settings.now number × Holds out.old (from + number * length) }
-    ensures { out.new ≡ put_at from (runs_of length settings.now number) out.old }
-{
-    let mut p = from;
-    let mut q: usize = 0;
-    while q < number {
-        put_run(out, p, length, as_bit(settings[q]));
-        p += length;
-        q += 1;
-    }
-}
-
-// The first `count` bits once more, from place `to` on.
-fn repeat(out: &mut [u8], count: usize, to: usize)
-    requires { (count ≤ to) × Holds out.old (to + count) }
-    ensures { out.new ≡ put_at to (take count out.old) out.old }
-{
-    let mut j: usize = 0;
-    while j < count {
-        out[to + j] = out[j];
-        j += 1;
+    for (q, setting) in settings[..per].iter().enumerate() {
+        let from = q * length;
+        out[from..from + length].fill(as_bit(*setting));
     }
 }
 
@@ -63,28 +34,26 @@ pub fn fill(length: usize, per: usize, half: usize, settings: &[u8], out: &mut [
     requires { Fits length per half × Holds settings.now per × Holds out.old (bits_in half) }
     ensures { out.new ≡ burst_of length per settings.now ++ drop (bits_in half) out.old }
 {
-    put_runs(length, per, settings, 0, out);
-    put_run(out, half, 4, RESERVED);
-    repeat(out, half, half + 4);
+    put_runs(length, per, settings, out);
+    out[half..half + 4].fill(RESERVED);
+    out.copy_within(..half, half + 4);
 }
 
-// How many bits of two runs are 1, each of as many bits as `count` says: the one from place `first`, the other from place `second`. Both in one loop: a run has
-// few bits, and a loop for each costs more than its turns.
-fn ones(bits: &[u8], first: usize, second: usize, count: usize) -> u32
-    requires { (count ≤ 255) × Holds bits.now (first + count) × Holds bits.now (second + count) }
-    ensures { result ≡ ones_from bits.now first count + ones_from bits.now second count }
+// How many bits of two runs of one length are 1. Both in one loop: a run has few bits, and a loop for each costs more than its turns.
+fn ones(one: &[u8], other: &[u8]) -> usize
+    requires { (length one.now ≤ 255) × (length other.now ≡ length one.now) }
+    ensures { result ≡ ones_from one.now 0 (length one.now) + ones_from other.now 0 (length one.now) }
 {
-    let mut sum: u32 = 0;
-    let mut j: usize = 0;
-    while j < count {
-        sum += (as_bit(bits[first + j]) + as_bit(bits[second + j])) as u32;
-        j += 1;
+    let mut sum = 0;
+    for (j, bit) in one.iter().enumerate() {
+        sum += usize::from(as_bit(*bit)) + usize::from(as_bit(other[j]));
     }
     sum
 }
 
 // What a number of ones among so many bits says: off, on, or torn.
-fn reading(ones: u32, count: u32) -> u8
+#[tactic(auto, unfolding(crate::specs::Bits::heard))]
+fn reading(ones: usize, count: usize) -> u8
     ensures { result ≡ heard ones count }
 {
     if ones == 0 {
@@ -102,11 +71,10 @@ pub fn scan(length: usize, per: usize, half: usize, bits: &[u8], out: &mut [u8])
     requires { Fits length per half × Holds bits.now (bits_in half) × Holds out.old per }
     ensures { out.new ≡ readings_of length per half bits.now ++ drop per out.old }
 {
-    let mut p: usize = 0;
-    let mut q: usize = 0;
-    while q < per {
-        out[q] = reading(ones(bits, p, half + 4 + p, length), 2 * length as u32);
-        p += length;
-        q += 1;
+    for q in 0..per {
+        let first = q * length;
+        let second = half + 4 + first;
+        let ones = ones(&bits[first..first + length], &bits[second..second + length]);
+        out[q] = reading(ones, 2 * length);
     }
 }

@@ -4,9 +4,7 @@
 use Rattle.std.specs.Prelude.{cond, List, [], ◌∷◌, ◌++◌, ℕ, ◌-◌, eqb, ltb, length, drop, get_or}
 use Prim.Native.String.{String}
 use Rattle.laws.specs.Text.{bytes}
-use Rattle.refusals.specs.Refusals.{Answer, refused, answered, Outcome, ◌leaving◌, first_of, answer, after}
-use Rattle.refusal_words.specs.declared.WordsAnswer.{WordsAnswer}
-use Rattle.refusal_words.specs.declared.WordsAnswer.TheVariants as words
+use Rattle.refusals.specs.Refusals.{Outcome, ◌leaving◌, first_of, answer, after}
 
 -- in order, from 1
 unfoldable pub conditions : List String
@@ -49,8 +47,3 @@ putting text out =
 
 unfoldable pub words_outcome : ℕ → List ℕ → Outcome ℕ (List ℕ)
 words_outcome number out = putting (words_of number) out
-
--- what each case of an answer says
-unfoldable pub said_words : WordsAnswer → Answer ℕ
-said_words (words.Refused n) = refused n
-said_words (words.Written n) = answered n

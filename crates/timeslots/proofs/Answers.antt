@@ -1,5 +1,5 @@
 -- What the two definitions `parts_answer` and `at_answer` come to: the parts' refusals, then 10, then what lies at the chip.
--- Cited by the proofs of `parts` and `at`, and by the crates there_and_back and facts. Assumes nothing.
+-- Cited by the proof of `at`, and by the crates there_and_back and facts. Assumes nothing.
 use mathlib.Core.Path.{◌≡◌, sym, ◌∙◌}
 use mathlib.Core.List.{[], ◌∷◌}
 use Prim.Native.Nat.{ℕ, ◌<◌, ◌≤◌}
@@ -15,16 +15,6 @@ use Rattle.timeslots.specs.Timeslots.{SevenParts, seven_parts, lies_at}
 use Rattle.timeslots.specs.Calls.{at_refusals, parts_answer, at_answer}
 
 module _ (burst : ℕ) (direction : Direction) (factor tfci tpc : ℕ) where
-  pub parts_refused : (n : ℕ) → n ≡ first_of (parts_refusals burst direction factor tfci tpc) → (n ≡ 0 → ⊥)
-      → parts_answer burst direction factor tfci tpc ≡ refused n
-  unfolding parts_answer
-  parts_refused n e h = rw (← e) (answer_refused n _ h)
-
-  pub parts_answered : first_of (parts_refusals burst direction factor tfci tpc) ≡ 0
-      → parts_answer burst direction factor tfci tpc ≡ answered (seven_parts burst direction factor tfci tpc)
-  unfolding parts_answer
-  parts_answered z = answer_answered _ _ z
-
   pub parts_given : (given : SevenParts) → parts_answer burst direction factor tfci tpc ≡ answered given
       → (first_of (parts_refusals burst direction factor tfci tpc) ≡ 0) × (seven_parts burst direction factor tfci tpc ≡ given)
   unfolding parts_answer

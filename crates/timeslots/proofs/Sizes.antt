@@ -1,5 +1,5 @@
 -- The seven lengths of a request that is not refused: control fits beside the data, all seven make 2,560 chips, and each part is a whole
--- number of what is counted in it. Once over the numbers. Cited by the proofs of `part_lengths`, `placed` and `lies_at`, and by the crates there_and_back and facts. Assumes nothing.
+-- number of what is counted in it. Once over the numbers. Cited by the proofs of `Request`, and by the crates there_and_back and facts. Assumes nothing.
 use mathlib.Core.Path.{◌≡◌, subst}
 use Prim.Native.Nat.{ℕ, ◌+◌, ◌-◌, ◌/◌, ◌%◌, ◌≤◌, ◌∣◌}
 use native.Mathlib.Nat.{mul-le-mul, le_of_dvd, pos_of_dvd_of_pos, dvd_trans, dvd-mul_left, dvd-mul_left_of_dvd, dvd-add, dvd-add_iff_right, dvd_of_mod-eq-zero, one-dvd}

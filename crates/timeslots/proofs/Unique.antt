@@ -1,18 +1,18 @@
 -- No public call asks anything of its caller (`Pre` holds of everything), and no second reply satisfies its promise (`Post`): both as
 -- rattle reads them off the source, at lifetimes κs, arguments a, reply r and exit s. Assumes nothing.
 use mathlib.Core.Path.{◌≡◌, refl, sym, ap, ◌∙◌}
-use Rattle.refusals.specs.Refusals.{Answer, refused, answered}
+use Rattle.std.specs.Prelude.{Result}
+use Rattle.refusals.specs.declared.Refusal.{Refusal}
+use Rattle.refusals.specs.Refusals.{said_as}
+use Rattle.refusals.proofs.Numbers.{said_as_once}
 use Rattle.timeslots.specs.declared.Span.{Span}
 use Rattle.timeslots.specs.declared.Layout.{Layout}
-use Rattle.timeslots.specs.declared.PartsAnswer.{PartsAnswer}
-use Rattle.timeslots.specs.declared.PartsAnswer.TheVariants as parts-answer
-use Rattle.timeslots.specs.declared.AtAnswer.{AtAnswer}
-use Rattle.timeslots.specs.declared.AtAnswer.TheVariants as chip-answer
+use Rattle.timeslots.specs.declared.Lying.{Lying}
+use Rattle.timeslots.specs.declared.Lying.TheVariants as lying
 use Rattle.timeslots.specs.declared.Symbol.TheVariants.{Data1, Data2, Tfci1, Tfci2, Tpc}
 use Rattle.timeslots.specs.Timeslots.{Part, DATA1, TFCI1, MIDAMBLE, TPC, TFCI2, DATA2, GUARD, SevenParts}
-use Rattle.timeslots.specs.Calls.{said_layout, said_parts, said_at}
+use Rattle.timeslots.specs.Calls.{said_layout, said_lying}
 use Prim.Native.Nat.{ℕ}
-use native.Mathlib.Omega.{arith}
 use lib.ListN.{get_or}
 use Rattle.timeslots.proofs.parts.Reads as parts
 use Rattle.timeslots.proofs.at.Reads as at
@@ -42,37 +42,35 @@ layout_said l = refl
 said_layout_one : (l l' : Layout) → said_layout l ≡ said_layout l' → l ≡ l'
 said_layout_one l l' e = sym (layout_said l) ∙ ap layout_in e ∙ layout_said l'
 
-said_parts_one : (r r' : PartsAnswer) → said_parts r ≡ said_parts r' → r ≡ r'
-unfolding said_parts
-said_parts_one (parts-answer.Refused n) (parts-answer.Refused m) e = cc
-said_parts_one (parts-answer.Refused n) (parts-answer.Parts l) e = let z : ◌≡◌ {A = ℕ} 0 1 = cc in absurd (omega arith)
-said_parts_one (parts-answer.Parts l) (parts-answer.Refused n) e = let z : ◌≡◌ {A = ℕ} 0 1 = cc in absurd (omega arith)
-said_parts_one (parts-answer.Parts l) (parts-answer.Parts m) e = let t : said_layout l ≡ said_layout m = cc in ap parts-answer.Parts (said_layout_one l m t)
+-- two answers that say the same are the same
+pub said_parts_one : (r r' : Result Layout Refusal) → said_as said_layout r ≡ said_as said_layout r' → r ≡ r'
+said_parts_one r r' e = said_as_once said_layout said_layout_one r r' e
 
--- the chip's answer of which this is said
-heard : Answer (Part × ℕ) → AtAnswer
-heard (refused n) = chip-answer.Refused n
-heard (answered (DATA1, n)) = chip-answer.Symbol (Data1 n)
-heard (answered (TFCI1, n)) = chip-answer.Symbol (Tfci1 n)
-heard (answered (MIDAMBLE, n)) = chip-answer.Midamble n
-heard (answered (TPC, n)) = chip-answer.Symbol (Tpc n)
-heard (answered (TFCI2, n)) = chip-answer.Symbol (Tfci2 n)
-heard (answered (DATA2, n)) = chip-answer.Symbol (Data2 n)
-heard (answered (GUARD, n)) = chip-answer.Guard n
+-- what lies at a chip, of which this is said
+lying_in : Part × ℕ → Lying
+lying_in (DATA1, n) = lying.Symbol (Data1 n)
+lying_in (TFCI1, n) = lying.Symbol (Tfci1 n)
+lying_in (MIDAMBLE, n) = lying.Midamble n
+lying_in (TPC, n) = lying.Symbol (Tpc n)
+lying_in (TFCI2, n) = lying.Symbol (Tfci2 n)
+lying_in (DATA2, n) = lying.Symbol (Data2 n)
+lying_in (GUARD, n) = lying.Guard n
 
-heard_said : (r : AtAnswer) → heard (said_at r) ≡ r
-unfolding heard said_at
-heard_said (chip-answer.Refused n) = refl
-heard_said (chip-answer.Midamble n) = refl
-heard_said (chip-answer.Guard n) = refl
-heard_said (chip-answer.Symbol (Data1 n)) = refl
-heard_said (chip-answer.Symbol (Data2 n)) = refl
-heard_said (chip-answer.Symbol (Tfci1 n)) = refl
-heard_said (chip-answer.Symbol (Tfci2 n)) = refl
-heard_said (chip-answer.Symbol (Tpc n)) = refl
+lying_said : (l : Lying) → lying_in (said_lying l) ≡ l
+unfolding lying_in
+lying_said (lying.Midamble n) = refl
+lying_said (lying.Guard n) = refl
+lying_said (lying.Symbol (Data1 n)) = refl
+lying_said (lying.Symbol (Data2 n)) = refl
+lying_said (lying.Symbol (Tfci1 n)) = refl
+lying_said (lying.Symbol (Tfci2 n)) = refl
+lying_said (lying.Symbol (Tpc n)) = refl
 
-said_at_one : (r r' : AtAnswer) → said_at r ≡ said_at r' → r ≡ r'
-said_at_one r r' e = sym (heard_said r) ∙ ap heard e ∙ heard_said r'
+said_lying_one : (l l' : Lying) → said_lying l ≡ said_lying l' → l ≡ l'
+said_lying_one l l' e = sym (lying_said l) ∙ ap lying_in e ∙ lying_said l'
+
+pub said_at_one : (r r' : Result Lying Refusal) → said_as said_lying r ≡ said_as said_lying r' → r ≡ r'
+said_at_one r r' e = said_as_once said_lying said_lying_one r r' e
 
 pub parts_asks_nothing : (κs : _) (a : _) → parts.Pre κs a
 parts_asks_nothing κs a = tt

@@ -1,16 +1,14 @@
--- Document 01, "Parts of a timeslot": of each call the refusals in their order, what its answer says, and the answer that it must give.
+-- Document 01, "Parts of a timeslot": of each call the refusals in their order, what its value says, and the answer that it must give.
 -- Cited by the promises of `parts` and `at`. Assumes nothing.
 use Rattle.std.specs.Prelude.{[], ◌∷◌, ◌++◌, ℕ}
 use Rattle.conditions.specs.Conditions.{bad_slot_chip}
 use Rattle.tables.specs.Tables.{parts_refusals}
-use Rattle.refusals.specs.Refusals.{Answer, refused, answered, Refusals, first_of, answer}
+use Rattle.refusals.specs.Refusals.{Answer, Refusals, first_of, answer}
 use Rattle.conditions.specs.declared.Direction.{Direction}
 use Rattle.timeslots.specs.declared.Span.{Span}
 use Rattle.timeslots.specs.declared.Layout.{Layout}
-use Rattle.timeslots.specs.declared.PartsAnswer.{PartsAnswer}
-use Rattle.timeslots.specs.declared.PartsAnswer.TheVariants as parts
-use Rattle.timeslots.specs.declared.AtAnswer.{AtAnswer}
-use Rattle.timeslots.specs.declared.AtAnswer.TheVariants as chip
+use Rattle.timeslots.specs.declared.Lying.{Lying}
+use Rattle.timeslots.specs.declared.Lying.TheVariants as lying
 use Rattle.timeslots.specs.declared.Symbol.TheVariants.{Data1, Data2, Tfci1, Tfci2, Tpc}
 use Rattle.timeslots.specs.Timeslots.{Part, DATA1, TFCI1, MIDAMBLE, TPC, TFCI2, DATA2, GUARD, SevenParts, seven_parts, lies_at}
 
@@ -29,26 +27,20 @@ said_layout l = (
   (l.bits1, l.bits2),
 )
 
--- what the answer about the parts says: a refusal by its number, or the seven parts
-unfoldable pub said_parts : PartsAnswer → Answer SevenParts
-said_parts (parts.Refused n) = refused n
-said_parts (parts.Parts l) = answered (said_layout l)
-
 -- the answer that `parts` must give
 unfoldable pub parts_answer : ℕ → Direction → ℕ → ℕ → ℕ → Answer SevenParts
 parts_answer burst direction factor tfci tpc =
     answer (first_of (parts_refusals burst direction factor tfci tpc)) (seven_parts burst direction factor tfci tpc)
 
--- what a chip's answer says: "midamble or guard with the offset in it, or a symbol; data and control carry which part it is and the symbol number"
-unfoldable pub said_at : AtAnswer → Answer (Part × ℕ)
-said_at (chip.Refused n) = refused n
-said_at (chip.Midamble n) = answered (MIDAMBLE, n)
-said_at (chip.Guard n) = answered (GUARD, n)
-said_at (chip.Symbol (Data1 n)) = answered (DATA1, n)
-said_at (chip.Symbol (Data2 n)) = answered (DATA2, n)
-said_at (chip.Symbol (Tfci1 n)) = answered (TFCI1, n)
-said_at (chip.Symbol (Tfci2 n)) = answered (TFCI2, n)
-said_at (chip.Symbol (Tpc n)) = answered (TPC, n)
+-- what lies at a chip: "midamble or guard with the offset in it, or a symbol; data and control carry which part it is and the symbol number"
+abbrev pub said_lying : Lying → Part × ℕ
+said_lying (lying.Midamble n) = (MIDAMBLE, n)
+said_lying (lying.Guard n) = (GUARD, n)
+said_lying (lying.Symbol (Data1 n)) = (DATA1, n)
+said_lying (lying.Symbol (Data2 n)) = (DATA2, n)
+said_lying (lying.Symbol (Tfci1 n)) = (TFCI1, n)
+said_lying (lying.Symbol (Tfci2 n)) = (TFCI2, n)
+said_lying (lying.Symbol (Tpc n)) = (TPC, n)
 
 -- the answer that `at` must give
 unfoldable pub at_answer : ℕ → Direction → ℕ → ℕ → ℕ → ℕ → Answer (Part × ℕ)

@@ -1,9 +1,18 @@
--- The seven lengths as the code hands them on, and the second half of its walk. No reader of a public promise has to believe it.
--- Cited by `part_lengths` and `behind_midamble`. Assumes nothing.
-use Rattle.std.specs.Prelude.{cond, ℕ, ◌-◌, ◌/◌, ltb}
+-- A request that is not refused, the seven lengths as the code hands them on, and the second half of its walk. No reader of a public promise has to believe it.
+-- Cited by the promises of `Request` and `Lengths`. Assumes nothing.
+use Rattle.std.specs.Prelude.{◌≡◌, cond, ℕ, ◌-◌, ◌/◌, ltb}
 use Rattle.conditions.specs.declared.Direction.{Direction}
 use Rattle.timeslots.specs.declared.lengths.Lengths.{Lengths}
+use Rattle.timeslots.specs.declared.request.Request.{Request}
 use Rattle.timeslots.specs.Timeslots.{Part, DATA1, TFCI1, MIDAMBLE, TPC, TFCI2, DATA2, GUARD, part_length}
+
+-- a request of these numbers
+pub record IsRequestOf (burst : ℕ) (direction : Direction) (factor tfci tpc : ℕ) (r : Request) : Type 0 where
+  pub burst_is : r.burst ≡ burst
+  pub direction_is : r.direction ≡ direction
+  pub factor_is : r.factor ≡ factor
+  pub tfci_is : r.tfci ≡ tfci
+  pub tpc_is : r.tpc ≡ tpc
 
 -- each part's length under its name
 unfoldable pub lengths_of : ℕ → Direction → ℕ → ℕ → ℕ → Lengths

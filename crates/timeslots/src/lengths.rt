@@ -1,10 +1,10 @@
-// How long the parts are: the table of fields, and what control takes from them.
+// The table of fields, how long a control symbol is, and the lengths of the parts.
 ghost use Rattle.std.specs.Prelude.{◌≡◌, ◌≤◌, ◌<◌};
-ghost use Rattle.refusals.specs.Refusals.{first_of};
 ghost use Rattle.timeslots.specs.Timeslots.{field_length, control_chips};
-ghost use Rattle.timeslots.specs.Inside.{lengths_of};
-ghost use Rattle.tables.specs.Tables.{parts_refusals};
+ghost use Rattle.timeslots.specs.Inside.{behind_midamble};
+ghost use Rattle.timeslots.specs.Calls.{said_lying};
 
+use crate::{Lying, Symbol};
 use conditions::Direction;
 
 // Burst type by field, in chips: data 1, midamble, data 2, guard.
@@ -15,7 +15,8 @@ const FIELDS: [[u32; 4]; 3] = [
 ];
 
 // The length of a field of a burst type.
-fn field_length(burst: u32, field: usize) -> u32
+#[tactic(auto, unfolding(crate::specs::Timeslots::field_length, crate::specs::Timeslots::fields))]
+pub fn field_length(burst: u32, field: usize) -> u32
     requires { (1 ≤ burst) × (burst ≤ 3) × (field < 4) }
     ensures { result ≡ field_length burst field }
 {
@@ -24,6 +25,7 @@ fn field_length(burst: u32, field: usize) -> u32
 }
 
 // The chips of a control symbol: always 16 in uplink, the data's factor in downlink.
+#[tactic(auto, unfolding(crate::specs::Timeslots::control_chips))]
 pub fn control_chips(direction: Direction, factor: u32) -> u32
     ensures { result ≡ control_chips direction factor }
 {
@@ -45,25 +47,24 @@ pub struct Lengths {
     pub guard: u32,
 }
 
-// How long the parts are, of a request that is not refused: control eats into the data field beside it.
-pub fn part_lengths(burst: u32, direction: Direction, factor: u32, tfci: u32, tpc: u32) -> Lengths
-    requires { first_of (parts_refusals burst direction factor tfci tpc) ≡ 0 }
-    ensures { result ≡ lengths_of burst direction factor tfci tpc }
-{
-    let control = control_chips(direction, factor);
-    let half = tfci / 2 / 2 * control;
-    let power = tpc / 2 * control;
-    let data1 = field_length(burst, 0);
-    let midamble = field_length(burst, 1);
-    let data2 = field_length(burst, 2);
-    let guard = field_length(burst, 3);
-    Lengths {
-        data1: data1 - half,
-        tfci1: half,
-        midamble,
-        tpc: power,
-        tfci2: half,
-        data2: data2 - (power + half),
-        guard,
+impl Lengths {
+    // What lies behind the midamble, so many chips from its end, where a data symbol takes `factor` chips and a control symbol `control`.
+    #[tactic(auto, unfolding(crate::specs::Inside::behind_midamble))]
+    pub fn behind_midamble(self, left: u32, factor: u32, control: u32) -> Lying
+        requires { (1 ≤ factor) × (1 ≤ control) }
+        ensures { said_lying result ≡ behind_midamble left self.tpc self.tfci2 self.data2 factor control }
+    {
+        if left < self.tpc {
+            return Lying::Symbol(Symbol::Tpc(left / control));
+        }
+        let left = left - self.tpc;
+        if left < self.tfci2 {
+            return Lying::Symbol(Symbol::Tfci2(left / control));
+        }
+        let left = left - self.tfci2;
+        if left < self.data2 {
+            return Lying::Symbol(Symbol::Data2(left / factor));
+        }
+        Lying::Guard(left - self.data2)
     }
 }

@@ -2,22 +2,25 @@
 #![tactic(auto)]
 
 mod lengths;
-mod places;
+mod request;
 
 ghost use Rattle.std.specs.Prelude.{◌≡◌};
-ghost use Rattle.timeslots.specs.Calls.{said_parts, parts_answer, said_at, at_answer};
+ghost use Rattle.refusals.specs.Refusals.{said_as};
+ghost use Rattle.timeslots.specs.Calls.{said_layout, parts_answer, said_lying, at_answer};
 
 use conditions::Direction;
+use refusals::Refusal;
+use request::Request;
 
 // A part of the timeslot: its first chip and its length in chips.
-#[derive(Clone, Copy)]
+#[derive(Clone, Copy, Debug, PartialEq, Eq)]
 pub struct Span {
     pub start: u32,
     pub length: u32,
 }
 
 // The seven parts in time order, and the bits of both data parts.
-#[derive(Clone, Copy)]
+#[derive(Clone, Copy, Debug, PartialEq, Eq)]
 pub struct Layout {
     pub data1: Span,
     pub tfci1: Span,
@@ -30,14 +33,8 @@ pub struct Layout {
     pub bits2: u32,
 }
 
-#[derive(Clone, Copy)]
-pub enum PartsAnswer {
-    Refused(u32),
-    Parts(Layout),
-}
-
 // A symbol's part, and its number in that part from 0.
-#[derive(Clone, Copy)]
+#[derive(Clone, Copy, Debug, PartialEq, Eq)]
 pub enum Symbol {
     Data1(u32),
     Data2(u32),
@@ -47,36 +44,40 @@ pub enum Symbol {
 }
 
 // What lies at a chip: midamble or guard with the offset in it from 0, or a symbol.
-#[derive(Clone, Copy)]
-pub enum AtAnswer {
-    Refused(u32),
+#[derive(Clone, Copy, Debug, PartialEq, Eq)]
+pub enum Lying {
     Midamble(u32),
     Guard(u32),
     Symbol(Symbol),
 }
 
 // Where the seven parts of a timeslot lie, and the bits of both data parts. Refusals: 2, 6, 7, 8.
-pub fn parts(burst: u32, direction: Direction, factor: u32, tfci: u32, tpc: u32) -> PartsAnswer
-    ensures { said_parts result ≡ parts_answer burst direction factor tfci tpc }
+#[tactic(auto, using(refusals::proofs::First::refused_by, refusals::proofs::First::answered_by, refusals::proofs::Numbers::number_not_0), unfolding(crate::specs::Calls::parts_answer))]
+pub fn parts(
+    burst: u32,
+    direction: Direction,
+    factor: u32,
+    tfci: u32,
+    tpc: u32,
+) -> Result<Layout, Refusal>
+    ensures { said_as said_layout result ≡ parts_answer burst direction factor tfci tpc }
 {
-    let n = tables::parts_refusal(burst, direction, factor, tfci, tpc);
-    if n != 0 {
-        return PartsAnswer::Refused(n);
-    }
-    let layout = places::placed(burst, direction, factor, tfci, tpc);
-    PartsAnswer::Parts(layout)
+    Ok(Request::of(burst, direction, factor, tfci, tpc)?.placed())
 }
 
 // What lies at a chip of a timeslot. Refusals: 2, 6, 7, 8, 10.
-pub fn at(burst: u32, direction: Direction, factor: u32, tfci: u32, tpc: u32, chip: u32) -> AtAnswer
-    ensures { said_at result ≡ at_answer burst direction factor tfci tpc chip }
+#[tactic(auto, using(crate::proofs::Answers::at_refused, crate::proofs::Answers::at_beyond, crate::proofs::Answers::at_answered, refusals::proofs::Numbers::number_not_0), unfolding(refusals::specs::Refusals::number_of))]
+pub fn at(
+    burst: u32,
+    direction: Direction,
+    factor: u32,
+    tfci: u32,
+    tpc: u32,
+    chip: u32,
+) -> Result<Lying, Refusal>
+    ensures { said_as said_lying result ≡ at_answer burst direction factor tfci tpc chip }
 {
-    let n = tables::parts_refusal(burst, direction, factor, tfci, tpc);
-    if n != 0 {
-        return AtAnswer::Refused(n);
-    }
-    if chip > 2559 {
-        return AtAnswer::Refused(10);
-    }
-    places::lies_at(burst, direction, factor, tfci, tpc, chip)
+    let request = Request::of(burst, direction, factor, tfci, tpc)?;
+    Refusal::OutOfRange.when(chip > 2559)?;
+    Ok(request.lies_at(chip))
 }

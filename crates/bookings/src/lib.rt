@@ -2,12 +2,14 @@
 #![tactic(auto)]
 
 ghost use Rattle.std.specs.Prelude.{◌≡◌, not, ◌&&◌, ◌||◌, ◌≤◌, eqb};
+ghost use Rattle.refusals.specs.Refusals.{refusal_in};
 ghost use Rattle.bookings.specs.Bookings.{form_of, key, comes, breaks_beacon};
 
 use conditions::Direction;
+use refusals::Refusal;
 
 // A booking of a seat. Its numbers were tested when it was booked, so they are kept in a byte each.
-#[derive(Clone, Copy)]
+#[derive(Clone, Copy, Debug, PartialEq, Eq)]
 pub struct Booking {
     pub timeslot: u8,
     pub direction: Direction,
@@ -19,20 +21,20 @@ pub struct Booking {
     pub tpc: u8,
 }
 
-// The first of the refusals 2 and 4 to 8 that the own numbers of a booking in a book get, or 0.
-pub fn form_of(x: Booking) -> u32
-    ensures { result ≡ form_of x }
+// The refusals 2 and 4 to 8, of the own numbers of a booking in a book.
+#[tactic(auto, unfolding(crate::specs::Bookings::form_of))]
+pub fn check_form(x: Booking) -> Result<(), Refusal>
+    ensures { refusal_in result ≡ form_of x }
 {
-    let direction = x.direction;
-    tables::form_refusal(
-        x.timeslot as u32,
-        direction,
-        x.burst as u32,
-        x.factor as u32,
-        x.index as u32,
-        x.user as u32,
-        x.tfci as u32,
-        x.tpc as u32,
+    tables::check_form(
+        u32::from(x.timeslot),
+        x.direction,
+        u32::from(x.burst),
+        u32::from(x.factor),
+        u32::from(x.index),
+        u32::from(x.user),
+        u32::from(x.tfci),
+        u32::from(x.tpc),
     )
 }
 
@@ -40,18 +42,15 @@ pub fn form_of(x: Booking) -> u32
 pub fn key_of(x: Booking) -> u32
     ensures { (result ≡ key x) × (result ≤ 8160) }
 {
-    let n = leaves::leaves_of(x.factor);
-    let a = leaves::leaf_at(x.index, n);
-    (x.timeslot as u32) * 16 + a
+    u32::from(x.timeslot) * 16 + leaves::leaf_at(x.index, leaves::leaves_of(x.factor))
 }
 
 // Whether x comes before y in a list.
+#[tactic(auto, unfolding(crate::specs::Bookings::comes))]
 pub fn comes_before(x: Booking, y: Booking) -> bool
     ensures { result ≡ comes x y }
 {
-    let a = key_of(x);
-    let b = key_of(y);
-    a < b
+    key_of(x) < key_of(y)
 }
 
 // Rule (a) is broken: only downlink type 1 is booked.
@@ -79,10 +78,8 @@ fn off_user(user: u8) -> bool
 pub fn breaks_beacon(x: Booking) -> bool
     ensures { result ≡ breaks_beacon x }
 {
-    let d = x.direction;
-    let down = conditions::is_down(d);
     let first = (x.factor == 16) & (x.index == 1);
-    let a = off_type(down, x.burst);
+    let a = off_type(x.direction.is_down(), x.burst);
     let b = off_first(first, x.user);
     let d = off_user(x.user);
     let f = (x.factor == 1) & (x.index == 1);

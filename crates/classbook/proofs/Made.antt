@@ -2,12 +2,14 @@
 -- Assumes nothing.
 use mathlib.Core.Path.{◌≡◌, sym, ap, ◌∙◌}
 use mathlib.Core.Bool.{Bool, true, false, not}
-use mathlib.Core.List.{[], ◌∷◌}
+use mathlib.Core.List.{List, [], ◌∷◌}
 use Prim.Native.Nat.{ℕ, ◌<◌}
 use native.Mathlib.Omega.{arith}
-use lib.Dec.{T, leb}
-use lib.ListN.{length, take}
+use lib.Dec.{T}
+use lib.ListN.{length, length-take}
 use borrow.Author.Tests.{leb-false}
+use Rattle.std.specs.Prelude.{Option, Some, is_none}
+use Rattle.std.specs.Option.{unwrap_or}
 use Rattle.laws.specs.Lists.{every, remove_at}
 use Rattle.refusals.specs.Refusals.{first_of}
 use Rattle.refusals.proofs.First.{numbered, append_refused, append_passes, append_front}
@@ -17,6 +19,7 @@ use Rattle.seats.specs.declared.Seat.{Seat}
 use Rattle.tables.specs.Tables.{form_refusals, settings_refusals}
 use Rattle.seats.specs.Seats.{held, bookings, insert, names, without, with_plan, seat_ok}
 use Rattle.plans.specs.Inside.{place_named}
+use Rattle.plans.proofs.Named.{placed_or_none}
 use Rattle.plans.proofs.Cancelled.{removed_plan}
 use Rattle.classbook.specs.declared.Book.{Book}
 use Rattle.classbook.specs.declared.Request.{Request}
@@ -54,10 +57,14 @@ book_late b seat x z =
     (sym (append_passes (request_refusals x) (booking_refusals b seat (as_booking x)) (request_numbered x) z))
 
 -- ---- book and cancel: what was found of the seat
-pub one_named : (s : Seat) (timeslot factor index n p : ℕ) → n ≡ held s
-    → leb n p ≡ every (λ y. not (names timeslot factor index y)) (take n s.row) → leb n p ≡ none_named s timeslot factor index
+pub one_named : (s : Seat) (timeslot factor index : ℕ) (place : Option ℕ) (l : List Booking) → l ≡ bookings s
+    → is_none place ≡ every (λ y. not (names timeslot factor index y)) l → is_none place ≡ none_named s timeslot factor index
 unfolding none_named
-one_named s timeslot factor index n p en e = e ∙ ap (λ (k : ℕ). every (λ y. not (names timeslot factor index y)) (take k s.row)) en
+one_named s timeslot factor index place l el e = e ∙ ap (every (λ y. not (names timeslot factor index y))) el
+
+pub place_found : (s : Seat) (timeslot factor index p : ℕ) (place : Option ℕ) (l : List Booking) → l ≡ bookings s → place ≡ Some p
+    → unwrap_or place (length l) ≡ place_named timeslot factor index l → p ≡ place_named timeslot factor index (bookings s)
+place_found s timeslot factor index p place l el ep e = sym (ap (λ (o : Option ℕ). unwrap_or o (length l)) ep) ∙ e ∙ ap (place_named timeslot factor index) el
 
 -- the form of a request that has passed is that of the booking
 pub form_kept : (x : Request) (y : Booking) → first_of (request_refusals x) ≡ 0 → y ≡ as_booking x → form_of y ≡ 0
@@ -77,8 +84,9 @@ module _ (b : Book) (seat : ℕ) (s : Seat) (es : s ≡ seat_of b seat) where
   unfolding booked
   booked_made x = ap (λ (t : Seat). with_seat b seat (with_plan t (insert x (bookings t)))) es
 
-  -- ---- cancel, where the place p was found among the first n
-  module _ (timeslot factor index n p : ℕ) (en : n ≡ held s) (sixteen : length b.seats ≡ 16) (e : first_of (cancel_refusals b seat timeslot factor index) ≡ 0) where
+  -- ---- cancel, where the place p was found
+  module _ (timeslot factor index p : ℕ) (ep : p ≡ place_named timeslot factor index (bookings s)) (sixteen : length b.seats ≡ 16)
+      (e : first_of (cancel_refusals b seat timeslot factor index) ≡ 0) where
     good : seat_ok s ≡ true
     good =
         let q = cancel_passed b seat timeslot factor index e in
@@ -87,12 +95,15 @@ module _ (b : Book) (seat : ℕ) (s : Seat) (es : s ≡ seat_of b seat) where
     there : none_named s timeslot factor index ≡ false
     there = ap (λ (t : Seat). none_named t timeslot factor index) es ∙ (cancel_passed b seat timeslot factor index e).there
 
-    pub cancel_ready : leb n p ≡ none_named s timeslot factor index → (seat_ok s ≡ true) × (p < held s)
-    cancel_ready f = (good, omega (arith, leb-false n p (f ∙ there), en))
+    pub cancel_ready : (seat_ok s ≡ true) × (p < held s)
+    unfolding none_named
+    cancel_ready =
+        let inside = leb-false (length (bookings s)) (place_named timeslot factor index (bookings s)) (placed_or_none timeslot factor index (bookings s) ∙ there) in
+        (good, omega (arith, inside, ep, length-take (held s) s.row))
 
-    pub cancelled_made : p ≡ place_named timeslot factor index (take n s.row) → with_seat b seat (with_plan s (remove_at p (bookings s))) ≡ cancelled b seat timeslot factor index
+    pub cancelled_made : with_seat b seat (with_plan s (remove_at p (bookings s))) ≡ cancelled b seat timeslot factor index
     unfolding cancelled none_named
-    cancelled_made ep =
-        ap (λ (k : ℕ). with_seat b seat (with_plan s (remove_at k (bookings s)))) (ep ∙ ap (λ (k : ℕ). place_named timeslot factor index (take k s.row)) en)
+    cancelled_made =
+        ap (λ (k : ℕ). with_seat b seat (with_plan s (remove_at k (bookings s)))) ep
         ∙ ap (λ (t : Seat). with_seat b seat t) (removed_plan s timeslot factor index good there)
         ∙ ap (λ (t : Seat). with_seat b seat (with_plan t (without timeslot factor index (bookings t)))) es

@@ -40,6 +40,13 @@ unfolding seat_of
 any_seat_good b seat l ok =
     ⊎_elim (λ h. seat_good b seat l ok (le_of_suc-le-suc h)) (λ h. rw (get_or-eq_default b.seats closed {n = seat} (omega arith)) closed_ok) (below_or_not seat 16)
 
+-- however many seats there are
+pub named_seat_good : (b : Book) (seat : ℕ) → book_ok b ≡ true → seat_ok (seat_of b seat) ≡ true
+unfolding book_ok seat_of
+named_seat_good b seat ok =
+    ⊎_elim (λ h. every_at seat_ok b.seats seat closed h (and_true (every seat_ok b.seats) (leb (common b) 80) ok).0)
+    (λ h. rw (get_or-eq_default b.seats closed {n = seat} (omega arith)) closed_ok) (below_or_not seat (length b.seats))
+
 -- ---- a booking
 pub record BookingPassed (b : Book) (seat : ℕ) (x : Booking) : Type 0 where
   pub valid : book_ok b ≡ true

@@ -1,7 +1,8 @@
 -- What the calls on the class book answer and what book they leave, for any book and any numbers. Cited by the promises of open, book, cancel, close, list and of a seat asked.
 -- Each call's refusals are a table, read from the top: bad arguments, then the book (12), then seat, booking and room. Assumes nothing.
-use Rattle.std.specs.Prelude.{cond, [], ◌∷◌, ◌++◌, ℕ, eqb, replicate}
-use Rattle.refusals.specs.Refusals.{Refusals, first_of, after}
+use Rattle.std.specs.Prelude.{cond, List, [], ◌∷◌, ◌++◌, ℕ, eqb, replicate, Result, Ok, Err}
+use Rattle.refusals.specs.declared.Refusal.{Refusal}
+use Rattle.refusals.specs.Refusals.{Refusals, first_of, after, number_of, refusal_in}
 use Rattle.bookings.specs.declared.Booking.{Booking}
 use Rattle.seats.specs.declared.Seat.{Seat}
 use Rattle.conditions.specs.Conditions.{bad_timeslot, bad_code}
@@ -10,11 +11,18 @@ use Rattle.seats.specs.Conditions.{not_permitted, clashes_with, off_beacon}
 use Rattle.seats.specs.Seats.{blank, closed, opened, held, bookings, insert, without, with_plan}
 use Rattle.classbook.specs.declared.Book.{Book}
 use Rattle.classbook.specs.declared.Request.{Request}
-use Rattle.classbook.specs.declared.BookAnswer.{BookAnswer}
-use Rattle.classbook.specs.declared.ListAnswer.{ListAnswer}
-use Rattle.classbook.specs.declared.SeatAnswer.{SeatAnswer}
+use Rattle.classbook.specs.declared.List as listed
 use Rattle.classbook.specs.Book.{seat_of, with_seat}
 use Rattle.classbook.specs.Conditions.{bad_book, bad_seat, not_open, is_open, seat_full, room_used_up, none_named}
+
+-- what a call answers and leaves: the refusal's number, or 0, and the book as the call leaves it
+pub record BookAnswer : Type 0 where
+  pub refusal : ℕ
+  pub book : Book
+
+-- of a call's result and the book that it leaves
+abbrev pub said_book : Result Unit Refusal → Book → BookAnswer
+said_book r b = record { refusal = refusal_in r; book = b }
 
 -- the answer of a call whose first refusal is n: the refusal's number, or 0, and the book as the call leaves it
 abbrev pub with_book : ℕ → Book → Book → BookAnswer
@@ -122,10 +130,30 @@ unfoldable pub close_answer : Book → ℕ → BookAnswer
 close_answer b seat = with_book (first_of (seat_refusals b seat)) b (with_seat b seat closed)
 
 -- ---- a seat asked (12, 13, 14): the refusal's number, or 0, and the seat that is named
+pub record SeatAnswer : Type 0 where
+  pub refusal : ℕ
+  pub seat : Seat
+
+-- of a call's result; refused, no seat is handed over
+abbrev pub said_seat : Book → ℕ → Result Seat Refusal → SeatAnswer
+said_seat b seat (Ok s) = record { refusal = 0; seat = s }
+said_seat b seat (Err r) = record { refusal = number_of r; seat = seat_of b seat }
+
 unfoldable pub seat_answer : Book → ℕ → SeatAnswer
 seat_answer b seat = record { refusal = first_of (seat_refusals b seat); seat = seat_of b seat }
 
 -- ---- list (12, 13, 14; 11 where it goes into a lent row)
+
+-- the refusal's number, or 0; how many bookings; and a row of which the first so many are the bookings in list order
+pub record ListAnswer : Type 0 where
+  pub refusal : ℕ
+  pub count : ℕ
+  pub row : List Booking
+
+-- of a call's result; refused, there is no list
+abbrev pub said_list : Result listed.List Refusal → ListAnswer
+said_list (Ok l) = record { refusal = 0; count = l.count; row = l.row }
+said_list (Err r) = record { refusal = number_of r; count = 0; row = replicate 40 blank }
 
 -- how many, and the seat's row, which is its bookings in list order and blank behind them; refused, nothing
 abbrev pub list_with : ℕ → Seat → ListAnswer

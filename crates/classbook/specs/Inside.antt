@@ -4,8 +4,7 @@ use Rattle.std.specs.Prelude.{ℕ}
 use Rattle.refusals.specs.Refusals.{first_of}
 use Rattle.bookings.specs.declared.Booking.{Booking}
 use Rattle.classbook.specs.declared.Book.{Book}
-use Rattle.classbook.specs.declared.BookAnswer.{BookAnswer}
-use Rattle.classbook.specs.Calls.{with_book, booking_refusals, booked}
+use Rattle.classbook.specs.Calls.{BookAnswer, with_book, booking_refusals, booked}
 
 -- the answer to a booking whose own numbers have passed
 unfoldable pub booking_answer : Book → ℕ → Booking → BookAnswer

@@ -1,26 +1,27 @@
-// The class book (document 01, "The class book"): sixteen seats in one value, which goes into each call and comes back with its answer.
+// The class book (document 01, "The class book"): sixteen seats in one value, which is lent to each call and stays as it was where the call refuses.
 // Any book may be handed in: each call first decides whether it meets its conditions.
 #![tactic(auto)]
 
 mod walk;
 
-ghost use Rattle.std.specs.Prelude.{◌≡◌, ◌≤◌};
+ghost use Rattle.std.specs.Prelude.{◌≡◌, ◌≤◌, ◌<◌};
 ghost use Rattle.bookings.specs.Bookings.{form_of};
 ghost use Rattle.classbook.specs.Book.{empty_book, with_seat, book_ok};
-ghost use Rattle.classbook.specs.Calls.{long_count, short_count, open_answer, with_book, as_booking, book_answer, cancel_answer, close_answer, seat_answer, list_with, list_answer};
+ghost use Rattle.classbook.specs.Calls.{long_count, short_count, said_book, open_answer, as_booking, book_answer, cancel_answer, close_answer, said_seat, seat_answer, said_list, list_answer};
 ghost use Rattle.classbook.specs.Inside.{booking_answer};
 
 use bookings::Booking;
 use conditions::Direction;
+use refusals::Refusal;
 use seats::Seat;
 
-#[derive(Clone, Copy)]
+#[derive(Clone, Copy, Debug, PartialEq, Eq)]
 pub struct Book {
     pub seats: [Seat; 16],
 }
 
 // A booking as a learner asks for it, in numbers of any size.
-#[derive(Clone, Copy)]
+#[derive(Clone, Copy, Debug, PartialEq, Eq)]
 pub struct Request {
     pub timeslot: u32,
     pub direction: Direction,
@@ -32,61 +33,41 @@ pub struct Request {
     pub tpc: u32,
 }
 
-// The refusal's number, or 0, and the book as the call leaves it.
-#[derive(Clone, Copy)]
-pub struct BookAnswer {
-    pub refusal: u32,
-    pub book: Book,
-}
-
-// The refusal's number, or 0; how many bookings; and a row of which the first so many are the bookings in list order.
-#[derive(Clone, Copy)]
-pub struct ListAnswer {
-    pub refusal: u32,
+// How many bookings a seat has; and a row of which the first so many are the bookings in list order.
+#[derive(Clone, Copy, Debug, PartialEq, Eq)]
+pub struct List {
     pub count: u32,
     pub row: [Booking; 40],
 }
 
-// The refusal's number, or 0, of a call that only asks a seat; and the seat that it names, above 15 a closed one.
-#[derive(Clone, Copy)]
-pub struct SeatAnswer {
-    pub refusal: u32,
-    pub seat: Seat,
-}
-
 // An empty book: made by the program, never by a learner.
+#[tactic(auto, unfolding(crate::specs::Book::empty_book))]
 pub fn empty_book() -> Book
     ensures { result ≡ empty_book }
 {
-    let none = seats::closed_seat();
-    let all = [none; 16];
-    Book { seats: all }
+    Book {
+        seats: [seats::closed_seat(); 16],
+    }
 }
 
 // Whether a book meets its conditions.
-pub fn book_ok(b: Book) -> bool
-    ensures { result ≡ book_ok b }
+pub fn book_ok(b: &Book) -> bool
+    ensures { result ≡ book_ok b.now }
 {
-    let t = walk::check(b, 0);
-    t.ok
+    walk::check(b, 0).ok
 }
 
-// The answer of a call whose first refusal is n: the book as it was, or with another seat in the place of this one. Above 15 the book stays.
-fn exchanged(n: u32, b: Book, seat: u32, s: Seat) -> BookAnswer
-    ensures { result ≡ with_book n b (with_seat b seat s) }
+// Another seat in the place of this one.
+#[tactic(auto, unfolding(crate::specs::Book::with_seat))]
+fn exchange(b: &mut Book, seat: u32, s: Seat)
+    requires { seat < 16 }
+    ensures { b.new ≡ with_seat b.old seat s }
 {
-    let mut made = b;
-    if (n == 0) & (seat < 16) {
-        let i = seat as usize;
-        made.seats[i] = s;
-    }
-    BookAnswer {
-        refusal: n,
-        book: made,
-    }
+    b.seats[seat as usize] = s;
 }
 
 // "A count of 0 in opening now means 8": the long count as it is stored.
+#[tactic(auto, unfolding(crate::specs::Calls::long_count))]
 fn long_count(long: u32) -> u32
     ensures { result ≡ long_count long }
 {
@@ -94,6 +75,7 @@ fn long_count(long: u32) -> u32
 }
 
 // "and 3": the short count.
+#[tactic(auto, unfolding(crate::specs::Calls::short_count))]
 fn short_count(short: u32) -> u32
     ensures { result ≡ short_count short }
 {
@@ -102,39 +84,33 @@ fn short_count(short: u32) -> u32
 
 // Opens a seat with a cell parameter, a synchronisation case and its k, and a long and a short count. Refusals: 1, 3, 9, 12, 13, 15.
 pub fn open_seat(
-    b: Book,
+    b: &mut Book,
     seat: u32,
     cell: u32,
     case: u32,
     k: u32,
     long: u32,
     short: u32,
-) -> BookAnswer
-    ensures { result ≡ open_answer b seat cell case k long short }
+) -> Result<(), Refusal>
+    ensures { said_book result b.new ≡ open_answer b.old seat cell case k long short }
 {
     let l = long_count(long);
     let s = short_count(short);
-    let t = walk::check(b, seat);
-    let n = book_tables::open_refusal(t.ok, seat, t.seat.live, cell, case, k, l, s);
-    if n != 0 {
-        return BookAnswer {
-            refusal: n,
-            book: b,
-        };
-    }
-    let new = seats::opened_seat(cell, case, k, l, s);
-    exchanged(0, b, seat, new)
+    let found = walk::check(b, seat);
+    book_tables::check_open(found.ok, seat, found.seat.live, cell, case, k, l, s)?;
+    exchange(b, seat, seats::opened_seat(cell, case, k, l, s));
+    Ok(())
 }
 
 // A request as it is kept. Inside this crate only: the calls have tested its numbers before.
+#[tactic(auto, unfolding(crate::specs::Calls::as_booking))]
 fn kept(x: Request) -> Booking
     requires { (x.timeslot ≤ 255) × (x.burst ≤ 255) × (x.factor ≤ 255) × (x.index ≤ 255) × (x.user ≤ 255) × (x.tfci ≤ 255) × (x.tpc ≤ 255) }
     ensures { result ≡ as_booking x }
 {
-    let direction = x.direction;
     Booking {
         timeslot: x.timeslot as u8,
-        direction,
+        direction: x.direction,
         burst: x.burst as u8,
         factor: x.factor as u8,
         index: x.index as u8,
@@ -145,109 +121,79 @@ fn kept(x: Request) -> Booking
 }
 
 // Books it: the request's own numbers have been tested.
-fn book_kept(b: Book, seat: u32, x: Booking) -> BookAnswer
+fn book_kept(b: &mut Book, seat: u32, x: Booking) -> Result<(), Refusal>
     requires { form_of x ≡ 0 }
-    ensures { result ≡ booking_answer b seat x }
+    ensures { said_book result b.new ≡ booking_answer b.old seat x }
 {
-    let found = walk::check(b, seat);
-    let s = found.seat;
-    let n = book_tables::booking_refusal(found.ok, found.used, seat, s, x);
-    if n != 0 {
-        return BookAnswer {
-            refusal: n,
-            book: b,
-        };
-    }
-    let more = plans::with_booking(s, x);
-    exchanged(0, b, seat, more)
+    let mut found = walk::check(b, seat);
+    book_tables::check_booking(found.ok, found.used, seat, &found.seat, x)?;
+    plans::with_booking(&mut found.seat, x);
+    exchange(b, seat, found.seat);
+    Ok(())
 }
 
 // Books a code in a timeslot for a seat. Refusals: 2, 4 to 8, 12 to 14, 16 to 20.
-pub fn book_code(b: Book, seat: u32, x: Request) -> BookAnswer
-    ensures { result ≡ book_answer b seat x }
+pub fn book_code(b: &mut Book, seat: u32, x: Request) -> Result<(), Refusal>
+    ensures { said_book result b.new ≡ book_answer b.old seat x }
 {
-    let direction = x.direction;
-    let n = tables::form_refusal(
-        x.timeslot, direction, x.burst, x.factor, x.index, x.user, x.tfci, x.tpc,
-    );
-    if n != 0 {
-        return BookAnswer {
-            refusal: n,
-            book: b,
-        };
-    }
-    let y = kept(x);
-    book_kept(b, seat, y)
+    tables::check_form(
+        x.timeslot,
+        x.direction,
+        x.burst,
+        x.factor,
+        x.index,
+        x.user,
+        x.tfci,
+        x.tpc,
+    )?;
+    book_kept(b, seat, kept(x))
 }
 
 // Cancels the booking of a seat that is named by timeslot and code. Refusals: 5, 6, 12, 13, 14, 21.
-pub fn cancel_code(b: Book, seat: u32, timeslot: u32, factor: u32, index: u32) -> BookAnswer
-    ensures { result ≡ cancel_answer b seat timeslot factor index }
+pub fn cancel_code(
+    b: &mut Book,
+    seat: u32,
+    timeslot: u32,
+    factor: u32,
+    index: u32,
+) -> Result<(), Refusal>
+    ensures { said_book result b.new ≡ cancel_answer b.old seat timeslot factor index }
 {
-    let t = walk::check(b, seat);
-    let s = t.seat;
-    let row = s.row;
-    let held = seats::held_by(s.count);
-    let p = plans::place_named(row, held, timeslot, factor, index);
-    let n = book_tables::cancel_refusal(t.ok, seat, s.live, timeslot, factor, index, held <= p);
-    if n != 0 {
-        return BookAnswer {
-            refusal: n,
-            book: b,
-        };
-    }
-    let less = plans::without_at(s, p);
-    exchanged(0, b, seat, less)
+    let mut found = walk::check(b, seat);
+    let s = &found.seat;
+    let place = plans::place_named(s.bookings(), timeslot, factor, index);
+    let p = book_tables::check_cancel(found.ok, seat, s.live, timeslot, factor, index, place)?;
+    plans::without_at(&mut found.seat, p);
+    exchange(b, seat, found.seat);
+    Ok(())
 }
 
 // Closes a seat: its bookings and its settings go. Refusals: 12, 13, 14.
-pub fn close_seat(b: Book, seat: u32) -> BookAnswer
-    ensures { result ≡ close_answer b seat }
+pub fn close_seat(b: &mut Book, seat: u32) -> Result<(), Refusal>
+    ensures { said_book result b.new ≡ close_answer b.old seat }
 {
-    let t = walk::check(b, seat);
-    let n = book_tables::seat_refusal(t.ok, seat, t.seat.live);
-    let none = seats::closed_seat();
-    exchanged(n, b, seat, none)
+    let found = walk::check(b, seat);
+    book_tables::check_seat(found.ok, seat, found.seat.live)?;
+    exchange(b, seat, seats::closed_seat());
+    Ok(())
 }
 
 // The seat that a call names. Refusals: 12, 13, 14. No call of document 01: public for the crate summaries.
-pub fn seat_asked(b: Book, seat: u32) -> SeatAnswer
-    ensures { result ≡ seat_answer b seat }
+pub fn seat_asked(b: &Book, seat: u32) -> Result<Seat, Refusal>
+    ensures { said_seat b.now seat result ≡ seat_answer b.now seat }
 {
-    let w = walk::check(b, seat);
-    let refusal = book_tables::seat_refusal(w.ok, seat, w.seat.live);
-    let s = w.seat;
-    SeatAnswer { refusal, seat: s }
-}
-
-// The list of a call whose first refusal is n: nothing, or the seat's row.
-fn listed(n: u32, s: Seat) -> ListAnswer
-    ensures { result ≡ list_with n s }
-{
-    if n != 0 {
-        let none = seats::closed_seat();
-        let row = none.row;
-        return ListAnswer {
-            refusal: n,
-            count: 0,
-            row,
-        };
-    }
-    let row = s.row;
-    let held = seats::held_by(s.count);
-    ListAnswer {
-        refusal: 0,
-        count: held as u32,
-        row,
-    }
+    let asked = walk::check(b, seat);
+    book_tables::check_seat(asked.ok, seat, asked.seat.live)?;
+    Ok(asked.seat)
 }
 
 // Lists a seat's bookings by value. Refusals: 12, 13, 14.
-pub fn list_seat(b: Book, seat: u32) -> ListAnswer
-    ensures { result ≡ list_answer b seat }
+pub fn list_seat(b: &Book, seat: u32) -> Result<List, Refusal>
+    ensures { said_list result ≡ list_answer b.now seat }
 {
-    let w = walk::check(b, seat);
-    let n = book_tables::seat_refusal(w.ok, seat, w.seat.live);
-    let s = w.seat;
-    listed(n, s)
+    let listed = walk::check(b, seat);
+    book_tables::check_seat(listed.ok, seat, listed.seat.live)?;
+    let count = listed.seat.held() as u32;
+    let row = listed.seat.row;
+    Ok(List { count, row })
 }

@@ -7,7 +7,7 @@ use book_tables::Tally;
 use seats::Seat;
 
 // What it finds: whether the book meets its conditions, the common room in use, and the seat that a call names.
-#[derive(Clone, Copy)]
+#[derive(Clone, Copy, Debug, PartialEq, Eq)]
 pub struct Found {
     pub ok: bool,
     pub used: usize,
@@ -15,27 +15,20 @@ pub struct Found {
 }
 
 // Walks through a book once and brings a seat; above 15 a closed one.
-pub fn check(b: Book, seat: u32) -> Found
-    ensures { (result.ok ≡ book_ok b) × (result.used ≡ common b) × (result.seat ≡ seat_of b seat) }
+pub fn check(b: &Book, seat: u32) -> Found
+    ensures { (result.ok ≡ book_ok b.now) × (result.used ≡ common b.now) × (result.seat ≡ seat_of b.now seat) }
 {
     let mut t = Tally { ok: true, used: 0 };
-    let mut i: usize = 0;
-    while i < 16 {
-        let s = b.seats[i];
+    for s in &b.seats {
         t = book_tables::passed(t, s);
-        i += 1;
     }
-    let ok = t.ok & (t.used <= 80);
-    let used = t.used;
-    if seat < 16 {
-        let j = seat as usize;
-        let s = b.seats[j];
-        return Found { ok, used, seat: s };
-    }
-    let none = seats::closed_seat();
     Found {
-        ok,
-        used,
-        seat: none,
+        ok: t.ok & (t.used <= 80),
+        used: t.used,
+        seat: if seat < 16 {
+            b.seats[seat as usize]
+        } else {
+            seats::closed_seat()
+        },
     }
 }

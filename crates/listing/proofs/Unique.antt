@@ -3,7 +3,6 @@
 use mathlib.Core.Path.{◌≡◌, sym, ◌∙◌}
 use mathlib.Core.List.{List}
 use Prim.Native.Nat.{ℕ}
-use native.Mathlib.Omega.{arith}
 use seplogic.Ra.Ura.{Ura}
 use base.Logic.{SProp, ent}
 use prog.Memory.{Memory}
@@ -12,40 +11,34 @@ use types.Logic.{Logic}
 use contract.Conj.{top}
 use contract.Lifetimes.{Lfts}
 use contract.Monad.{Fun, fact, fact_i, fact_use}
+use denote.Bor.{Bor}
 use denote.MutBor.{MutBor}
-use Rattle.refusals.specs.Refusals.{Outcome, ◌leaving◌}
+use Rattle.std.specs.Prelude.{Result}
+use Rattle.refusals.specs.declared.Refusal.{Refusal}
+use Rattle.refusals.specs.Refusals.{Outcome, ◌leaving◌, said}
+use Rattle.refusals.proofs.Numbers.{said_once}
 use Rattle.bookings.specs.declared.Booking.{Booking}
 use Rattle.classbook.specs.declared.Book.{Book}
-use Rattle.listing.specs.declared.ListReply.{ListReply}
-use Rattle.listing.specs.declared.ListReply.TheVariants as reply
-use Rattle.listing.specs.Listing.{said_list, list_outcome}
+use Rattle.listing.specs.Listing.{list_outcome}
 use Rattle.listing.specs.contracts.list as list
 
--- two replies that say the same are the same
-pub said_list_once : (r r' : ListReply) → said_list r ≡ said_list r' → r ≡ r'
-unfolding said_list
-said_list_once (reply.Refused n) (reply.Refused m) e = cc
-said_list_once (reply.Listed n) (reply.Listed m) e = cc
-said_list_once (reply.Refused n) (reply.Listed m) e = let z : ◌≡◌ {A = ℕ} 0 1 = cc in absurd (omega arith)
-said_list_once (reply.Listed n) (reply.Refused m) e = let z : ◌≡◌ {A = ℕ} 0 1 = cc in absurd (omega arith)
-
 -- two that both meet an outcome are the same, and so is what they leave
-once : (o : Outcome ℕ (List Booking)) (r r' : ListReply) (m m' : List Booking) → (said_list r leaving m) ≡ o → (said_list r' leaving m') ≡ o → (r ≡ r') × (m ≡ m')
+once : (o : Outcome ℕ (List Booking)) (r r' : Result ℕ Refusal) (m m' : List Booking) → (said r leaving m) ≡ o → (said r' leaving m') ≡ o → (r ≡ r') × (m ≡ m')
 once o r r' m m' p q =
-    let same : (said_list r leaving m) ≡ (said_list r' leaving m') = p ∙ sym q in
-    (said_list_once r r' (cc), cc)
+    let same : (said r leaving m) ≡ (said r' leaving m') = p ∙ sym q in
+    (said_once r r' (cc), cc)
 
-module _ {M : Type 1} {𝓤 : Ura M} (𝓛 : Logic 𝓤) (mem : Memory → SProp 𝓤) (run : Routine → Fun 𝓤) (κs : Lfts 1) (b : Book) (seat : ℕ) (out : MutBor (List Booking)) where
+module _ {M : Type 1} {𝓤 : Ura M} (𝓛 : Logic 𝓤) (mem : Memory → SProp 𝓤) (run : Routine → Fun 𝓤) (κs : Lfts 2) (b : Bor Book) (seat : ℕ) (out : MutBor (List Booking)) where
   -- what is asked of any book, any number and any records holds, whatever is had
   pub list_asks_nothing : (P : SProp 𝓤) → ent 𝓤 P ((list.clauses 𝓛 mem run κs (b, (seat, (out, tt)))).requires tt)
   list_asks_nothing P = top 𝓤 P
 
   -- where the promise is had of a reply r and an exit s, and of r' and s', the replies are equal and so are the records
-  pub list_unique : (P : SProp 𝓤) (r r' : ListReply) (s s' : _)
+  pub list_unique : (P : SProp 𝓤) (r r' : Result ℕ Refusal) (s s' : _)
       → ent 𝓤 P ((list.clauses 𝓛 mem run κs (b, (seat, (out, tt)))).ensures tt r s)
       → ent 𝓤 P ((list.clauses 𝓛 mem run κs (b, (seat, (out, tt)))).ensures tt r' s')
       → ent 𝓤 P (fact 𝓤 ((r ≡ r') × (s.1.1.0.now ≡ s'.1.1.0.now)))
   list_unique P r r' s s' p q =
-      fact_use 𝓤 ((said_list r leaving s.1.1.0.now) ≡ list_outcome b seat out.now) p (λ h.
-      fact_use 𝓤 ((said_list r' leaving s'.1.1.0.now) ≡ list_outcome b seat out.now) q (λ h'.
+      fact_use 𝓤 ((said r leaving s.1.1.0.now) ≡ list_outcome b.now seat out.now) p (λ h.
+      fact_use 𝓤 ((said r' leaving s'.1.1.0.now) ≡ list_outcome b.now seat out.now) q (λ h'.
       fact_i 𝓤 ((r ≡ r') × (s.1.1.0.now ≡ s'.1.1.0.now)) P (once _ r r' _ _ h h')))

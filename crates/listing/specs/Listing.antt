@@ -1,14 +1,12 @@
 -- Document 01, "The class book": the list that goes into a lent row of booking records. Cited by the promise of `listing::list`, and by the crate demand.
 -- Assumes nothing.
 use Rattle.std.specs.Prelude.{Bool, List, ◌∷◌, ◌++◌, ℕ, ltb, length, drop}
-use Rattle.refusals.specs.Refusals.{Answer, refused, answered, Refusals, Outcome, ◌leaving◌, first_of, answer, after}
+use Rattle.refusals.specs.Refusals.{Refusals, Outcome, ◌leaving◌, first_of, answer, after}
 use Rattle.bookings.specs.declared.Booking.{Booking}
 use Rattle.seats.specs.Seats.{bookings}
 use Rattle.classbook.specs.declared.Book.{Book}
 use Rattle.classbook.specs.Book.{seat_of}
 use Rattle.classbook.specs.Calls.{seat_refusals}
-use Rattle.listing.specs.declared.ListReply.{ListReply}
-use Rattle.listing.specs.declared.ListReply.TheVariants as reply
 
 -- 11: "lent memory .. shorter than the call needs (a list: fewer than 40 records, however few it writes)"
 unfoldable pub few_records : List Booking → Bool
@@ -24,8 +22,3 @@ list_outcome b seat out =
     let n = first_of (list_refusals b seat out) in
     let l = bookings (seat_of b seat) in
     answer n (length l) leaving after n out (l ++ drop (length l) out)
-
--- what each case of an answer says
-unfoldable pub said_list : ListReply → Answer ℕ
-said_list (reply.Refused n) = refused n
-said_list (reply.Listed n) = answered n

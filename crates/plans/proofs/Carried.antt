@@ -30,11 +30,10 @@ pub rank_high : (x : Booking) (n : ℕ) (l : List Booking) → rank x (take n l)
 unfolding rank
 rank_high x n l = omega (arith, count_le (λ y. comes y x) (take n l), length-take n l)
 
-pub carried_in : (s : Seat) (x : Booking) (n p : ℕ) (r : List Booking) (v : Slot) → n ≡ held s → p ≡ rank x (take n s.row) → r ≡ take 40 (insert_at p x s.row)
+pub carried_in : (s : Seat) (x : Booking) (n p : ℕ) (r : List Booking) (v : Slot) → n ≡ held s → p ≡ rank x (bookings s) → r ≡ take 40 (insert_at p x s.row)
     → v ≡ joined_with (get_or s.slots x.timeslot no_slot) x → kept s (n + 1) r (set s.slots x.timeslot v) ≡ put_in s x
 unfolding put_in
-carried_in s x n p r v en ep er ev =
-    let place : p ≡ rank x (bookings s) = ep ∙ ap (λ (m : ℕ). rank x (take m s.row)) en in
+carried_in s x n p r v en place er ev =
     let slots = set s.slots x.timeslot v in
     ap (λ (m : ℕ). kept s (m + 1) r slots) en
     ∙ ap (λ (l : List Booking). kept s (held s + 1) l slots) (er ∙ ap (λ (q : ℕ). take 40 (insert_at q x s.row)) place)

@@ -4,3 +4,4 @@ pub mod Summed
 pub mod Plans
 pub mod Kept
 pub mod Cancelled
+pub mod Moved

@@ -1,14 +1,21 @@
+-- The place of the booking that is named by timeslot and code, and whether there is one. Cited by place_named's proof and by Cancelled.
+-- Assumes nothing.
 -- The place of the booking that is named by timeslot and code, step by step. Cited by place_named's proof and by Cancelled.
 -- Assumes nothing.
-use mathlib.Core.Path.{◌≡◌, refl, sym, ap, ◌∙◌}
+use mathlib.Core.Path.{◌≡◌, refl, sym, ◌∙◌}
 use mathlib.Core.Logic.{⊎_elim}
 use mathlib.Core.Bool.{true, false, not}
 use mathlib.Core.List.{List, [], ◌∷◌}
-use Prim.Native.Nat.{ℕ, ◌+◌, ◌≤◌}
+use Prim.Native.Nat.{ℕ, ◌<◌}
 use native.Mathlib.Numerals.{add-one}
+use native.Mathlib.Omega.{arith}
 use lib.Dec.{leb, leb-suc-zero, leb-suc-suc}
-use lib.ListN.{length, take}
-use lib.Seq.{length-take-le}
+use lib.ListN.{length}
+use borrow.Author.Tests.{le-leb, lt-leb}
+use Rattle.std.specs.Prelude.{Option, Some, None, is_none, MatchOption}
+use Rattle.std.specs.Option.{unwrap_or}
+use Rattle.std.specs.List.{AllWithin, HoldsAt}
+use Rattle.std.proofs.lemmas.Iterator.{index_from_first}
 use Rattle.laws.specs.Lists.{every}
 use Rattle.laws.proofs.Lists.{by_cases}
 use Rattle.bookings.specs.declared.Booking.{Booking}
@@ -26,20 +33,21 @@ module _ (timeslot factor index : ℕ) where
       (λ h. rw h (leb-suc-suc (length l) (place_named timeslot factor index l) ∙ placed_or_none l))
       (by_cases (names timeslot factor index y))
 
-  pub first_or_none : (row : List Booking) (n p : ℕ) → n ≤ length row → p ≡ place_named timeslot factor index (take n row)
-      → leb n p ≡ every (λ y. not (names timeslot factor index y)) (take n row)
-  first_or_none row n p h e =
-      ap (λ (m : ℕ). leb m p) (sym (length-take-le n row h)) ∙ ap (λ (q : ℕ). leb (length (take n row)) q) e ∙ placed_or_none (take n row)
+  -- by what `position` found
+  abbrev pub Yes : Booking → Type 0
+  Yes y = names timeslot factor index y ≡ true
 
-  pub named_here : (l : List Booking) (y : Booking) (rest : List Booking) → l ≡ y ∷ rest → names timeslot factor index y ≡ true → place_named timeslot factor index l ≡ 0
-  unfolding place_named
-  named_here l y rest e t = rw e (simp t)
+  abbrev pub No : Booking → Type 0
+  No y = names timeslot factor index y ≡ false
 
-  pub named_later : (l : List Booking) (y : Booking) (rest : List Booking) → l ≡ y ∷ rest → names timeslot factor index y ≡ false
-      → place_named timeslot factor index l ≡ place_named timeslot factor index rest + 1
+  pub found_place : (l : List Booking) (r : Option ℕ) → MatchOption r (AllWithin No l 0 (length l)) (λ i. (i < length l) × HoldsAt Yes l i × AllWithin No l 0 i)
+      → unwrap_or r (length l) ≡ place_named timeslot factor index l
   unfolding place_named
-  named_later l y rest e f = rw e (simp (f, add-one))
+  found_place l r found =
+      sym (index_from_first (place_named timeslot factor index) Yes No refl (λ y xs h. rw h refl) (λ y xs h. rw h (sym (add-one (place_named timeslot factor index xs)))) l r found)
 
-  pub named_none : (l : List Booking) → l ≡ [] → place_named timeslot factor index l ≡ 0
-  unfolding place_named
-  named_none l e = rw e
+  -- and whether it found one
+  pub found_none : (l : List Booking) (r : Option ℕ) → MatchOption r (AllWithin No l 0 (length l)) (λ i. (i < length l) × HoldsAt Yes l i × AllWithin No l 0 i)
+      → is_none r ≡ every (λ y. not (names timeslot factor index y)) l
+  found_none l None found = sym (le-leb (length l) _ (omega (arith, found_place l None found))) ∙ placed_or_none l
+  found_none l (Some i) found = sym (lt-leb (length l) _ (omega (arith, found_place l (Some i) found, found.0))) ∙ placed_or_none l

@@ -2,8 +2,9 @@
 // document 01: public for the crate classbook, whose calls have tested before what is required here.
 #![tactic(auto)]
 
-ghost use Rattle.std.specs.Prelude.{◌≡◌, true, false, cond, not, ◌++◌, ◌∷◌, [], ◌≤◌, ◌<◌, eqb, leb, take};
-ghost use Rattle.laws.specs.Lists.{one, every, insert_at, remove_at};
+ghost use Rattle.std.specs.Prelude.{◌≡◌, true, false, cond, not, ◌++◌, ◌∷◌, [], ◌≤◌, ◌<◌, eqb, take, length, is_none};
+ghost use Rattle.std.specs.Option.{unwrap_or};
+ghost use Rattle.laws.specs.Lists.{every, insert_at, remove_at};
 ghost use Rattle.conditions.specs.Conditions.{bad_timeslot, bad_code};
 ghost use Rattle.slots.specs.Slots.{slot_of};
 ghost use Rattle.slots.specs.Inside.{joined_with};
@@ -14,111 +15,62 @@ use bookings::Booking;
 use seats::Seat;
 use slots::Slot;
 
-fn one_if(c: bool) -> usize
-    ensures { (result ≡ one c) × (result ≤ 1) }
+// How many of a list come before x.
+fn place_of(list: &[Booking], x: Booking) -> usize
+    ensures { result ≡ rank x list.now }
 {
-    if c { 1 } else { 0 }
+    list.iter()
+        .filter(|y| bookings::comes_before(**y, x))
+        .count()
 }
 
-// How many of the first n come before x.
-fn place_of(row: [Booking; 40], n: usize, x: Booking) -> usize
-    requires { n ≤ 40 }
-    ensures { result ≡ rank x (take n row) }
+// Puts x into the row at a place; the last one falls off.
+fn put_in(row: &mut [Booking; 40], p: usize, x: Booking)
+    requires { p < 40 }
+    ensures moved { row.new ≡ take 40 (insert_at p x row.old) }
+    ensures wide { length row.old ≡ 40 }
 {
-    let mut i = 0;
-    let mut at = 0;
-    while i < n {
-        let y = row[i];
-        let c = bookings::comes_before(y, x);
-        at = at + one_if(c);
-        i += 1;
-    }
-    at
+    row.copy_within(p..39, p + 1);
+    row[p] = x;
 }
 
-// The row with x put in at a place; the last one falls off.
-fn put_in(row: [Booking; 40], p: usize, x: Booking) -> [Booking; 40]
-    requires { p ≤ 40 }
-    ensures { result ≡ take 40 (insert_at p x row) }
+// Gives the seat one booking more, in its place. Public for the crate classbook.
+pub fn with_booking(s: &mut Seat, x: Booking)
+    requires { (seat_ok s.old ≡ true) × (held s.old < 40) × (bad_timeslot x.timeslot ≡ false) × (bad_code x.factor x.index ≡ false) }
+    ensures { s.new ≡ with_plan s.old (insert x (bookings s.old)) }
 {
-    let mut out = row;
-    let mut hold = x;
-    let mut j = p;
-    while j < 40 {
-        let y = out[j];
-        out[j] = hold;
-        hold = y;
-        j += 1;
-    }
-    out
-}
-
-// The seat with one booking more, in its place. Public for the crate classbook.
-pub fn with_booking(s: Seat, x: Booking) -> Seat
-    requires { (seat_ok s ≡ true) × (held s < 40) × (bad_timeslot x.timeslot ≡ false) × (bad_code x.factor x.index ≡ false) }
-    ensures { result ≡ with_plan s (insert x (bookings s)) }
-{
-    let row = s.row;
-    let n = seats::held_by(s.count);
-    let p = place_of(row, n, x);
-    let next = put_in(row, p, x);
-    let count = (n + 1) as u8;
+    let p = place_of(s.bookings(), x);
+    put_in(&mut s.row, p, x);
     let t = x.timeslot as usize;
-    let mut kept = s.slots;
-    let there = kept[t];
-    let more = slots::joined(there, x);
-    kept[t] = more;
-    Seat {
-        live: s.live,
-        cell: s.cell,
-        case: s.case,
-        k: s.k,
-        long: s.long,
-        short: s.short,
-        count,
-        row: next,
-        slots: kept,
-    }
+    s.slots[t] = slots::joined(s.slots[t], x);
+    s.count += 1;
 }
 
+#[tactic(auto, unfolding(seats::specs::Seats::names))]
 fn is_named(y: Booking, timeslot: u32, factor: u32, index: u32) -> bool
     ensures { result ≡ names timeslot factor index y }
 {
-    (y.timeslot as u32 == timeslot) & ((y.factor as u32 == factor) & (y.index as u32 == index))
+    (u32::from(y.timeslot) == timeslot)
+        & ((u32::from(y.factor) == factor) & (u32::from(y.index) == index))
 }
 
-// The place among the first n of the booking that is named by timeslot and code, or n where there is none. Public for the crate classbook.
-pub fn place_named(row: [Booking; 40], n: usize, timeslot: u32, factor: u32, index: u32) -> usize
-    requires { n ≤ 40 }
-    ensures { (result ≡ place_named timeslot factor index (take n row)) × (leb n result ≡ every (λ y. not (names timeslot factor index y)) (take n row)) }
+// The place in a list of the booking that is named by timeslot and code, where there is one. Public for the crate classbook.
+pub fn place_named(list: &[Booking], timeslot: u32, factor: u32, index: u32) -> Option<usize>
+    ensures place { unwrap_or result (length list.now) ≡ place_named timeslot factor index list.now }
+    ensures none { is_none result ≡ every (λ y. not (names timeslot factor index y)) list.now }
 {
-    let mut i = 0;
-    while i < n {
-        let y = row[i];
-        let found = is_named(y, timeslot, factor, index);
-        if found {
-            return i;
-        }
-        i += 1;
-    }
-    i
+    list.iter()
+        .position(|y| is_named(*y, timeslot, factor, index))
 }
 
-// The row without the one at a place; a blank one comes in at the end.
-fn take_out(row: [Booking; 40], p: usize, blank: Booking) -> [Booking; 40]
+// Takes the one at a place out of the row; a blank one comes in at the end.
+fn take_out(row: &mut [Booking; 40], p: usize, blank: Booking)
     requires { p < 40 }
-    ensures { result ≡ remove_at p (row ++ blank ∷ []) }
+    ensures moved { row.new ≡ remove_at p (row.old ++ blank ∷ []) }
+    ensures wide { length row.old ≡ 40 }
 {
-    let mut out = row;
-    let mut hold = blank;
-    let mut j: usize = 40;
-    while p < j {
-        j -= 1;
-        let y = out[j];
-        out[j] = hold;
-        hold = y;
-    }
-    out
+    row.copy_within(p + 1.., p);
+    row[39] = blank;
 }
 
 // A timeslot with one booking more, if it is one of its own.
@@ -132,46 +84,26 @@ fn joined_own(s: Slot, timeslot: u8, x: Booking) -> Slot
     s
 }
 
-// What the first n say of a timeslot: each of its bookings joins those before it.
-fn slot_of(row: [Booking; 40], n: usize, timeslot: u8) -> Slot
-    requires { (n ≤ 40) × (every (λ x. not (bad_code x.factor x.index)) (take n row) ≡ true) }
-    ensures { result ≡ slot_of timeslot (take n row) }
+// What a list says of a timeslot: each of its bookings joins those before it.
+fn slot_of(list: &[Booking], timeslot: u8) -> Slot
+    requires { (length list.now ≤ 40) × (every (λ x. not (bad_code x.factor x.index)) list.now ≡ true) }
+    ensures { result ≡ slot_of timeslot list.now }
 {
     let mut made = slots::no_slot();
-    let mut i = 0;
-    while i < n {
-        let x = row[i];
+    for &x in list {
         made = joined_own(made, timeslot, x);
-        i += 1;
     }
     made
 }
 
-// The seat without the booking at a place that is in use. What is left of its timeslot is summed again from the bookings that stay. Public for the crate classbook.
-pub fn without_at(s: Seat, p: usize) -> Seat
-    requires { (seat_ok s ≡ true) × (p < held s) }
-    ensures { result ≡ with_plan s (remove_at p (bookings s)) }
+// Takes from the seat the booking at a place that is in use. What is left of its timeslot is summed again from the bookings that stay. Public for the crate classbook.
+pub fn without_at(s: &mut Seat, p: usize)
+    requires { (seat_ok s.old ≡ true) × (p < held s.old) }
+    ensures { s.new ≡ with_plan s.old (remove_at p (bookings s.old)) }
 {
-    let row = s.row;
-    let n = seats::held_by(s.count);
-    let none = seats::blank_booking();
-    let gone = row[p];
-    let next = take_out(row, p, none);
-    let left = n - 1;
-    let count = left as u8;
-    let t = gone.timeslot as usize;
-    let mut kept = s.slots;
-    let fewer = slot_of(next, left, gone.timeslot);
-    kept[t] = fewer;
-    Seat {
-        live: s.live,
-        cell: s.cell,
-        case: s.case,
-        k: s.k,
-        long: s.long,
-        short: s.short,
-        count,
-        row: next,
-        slots: kept,
-    }
+    let t = s.row[p].timeslot;
+    take_out(&mut s.row, p, seats::blank_booking());
+    s.count -= 1;
+    let fewer = slot_of(s.bookings(), t);
+    s.slots[t as usize] = fewer;
 }

@@ -1,3 +1,4 @@
+pub mod Passing
 pub mod Free
 pub mod Blanks
 pub mod Walked

@@ -5,19 +5,17 @@ use mathlib.Core.Bool.{Bool, true, false, not, ◌&&◌, ◌||◌}
 use mathlib.Core.List.{List}
 use Prim.Native.Nat.{ℕ}
 use lib.Dec.{eqb, leb}
-use lib.ListN.{take, drop}
+use lib.ListN.{drop}
 use borrow.Author.Tests.{eqb-true}
 use Rattle.laws.specs.Lists.{every, pairs, chain, matches}
 use Rattle.laws.proofs.Bools.{and_true}
 use Rattle.laws.proofs.Lists.{every_true}
 use Rattle.laws.proofs.Matches.{pairs_both}
 use Rattle.laws.proofs.Neighbours.{chain_pairs}
-use Rattle.refusals.specs.Refusals.{first_of}
 use Rattle.bookings.specs.declared.Booking.{Booking}
 use Rattle.bookings.specs.Bookings.{form_of, comes, fine}
 use Rattle.bookings.proofs.Formed.{Formed, formed}
 use Rattle.bookings.proofs.Order.{comes_trans}
-use Rattle.tables.specs.Tables.{settings_refusals}
 use Rattle.slots.specs.Slots.{same_slot, summary_of}
 use Rattle.slots.proofs.ByMasks.{no_clash}
 use Rattle.seats.specs.declared.Seat.{Seat}
@@ -36,13 +34,8 @@ two_in_one : (l : List Booking) → (pairs comes l && pairs no_clash l) ≡ pair
 unfolding fine
 two_in_one l = sym (pairs_both comes no_clash l)
 
--- ---- the tests of a seat's bookings and of its summary
-abbrev pub row_tests : Seat → ℕ → Bool
-row_tests s n =
-    every (stands_in s) (take n s.row)
-    && (((pairs no_clash (take n s.row) && matches same_slot s.slots (summary_of (take n s.row))) && chain comes (take n s.row)) && every is_blank (drop n s.row))
-
-turned : (a p m c b : Bool) → (a && (((p && m) && c) && b)) ≡ (a && ((c && p) && (b && m)))
+-- ---- the tests of a seat's bookings, of its summary and of the places behind
+turned : (a p m c b : Bool) → ((a && ((p && m) && c)) && b) ≡ (a && ((c && p) && (b && m)))
 turned false p m c b = refl
 turned true false m false b = refl
 turned true false m true b = refl
@@ -53,21 +46,25 @@ turned true true true false b = refl
 turned true true true true true = refl
 turned true true true true false = refl
 
-module _ (s : Seat) (n : ℕ) (en : n ≡ held s) where
+module _ (s : Seat) where
+  abbrev row_tests : Bool
+  row_tests =
+      every (stands_in s) (bookings s)
+      && ((pairs no_clash (bookings s) && matches same_slot s.slots (summary_of (bookings s))) && chain comes (bookings s))
+
   in_order : (chain comes (bookings s) && pairs no_clash (bookings s)) ≡ pairs fine (bookings s)
   in_order = ap (λ (o : Bool). o && pairs no_clash (bookings s)) (chain_order (bookings s)) ∙ two_in_one (bookings s)
 
-  all_tests : row_tests s n
+  all_tests : (row_tests && every is_blank (drop (held s) s.row))
       ≡ (every (stands_in s) (bookings s) && (pairs fine (bookings s) && (every is_blank (drop (held s) s.row) && matches same_slot s.slots (summary_of (bookings s)))))
   all_tests =
-      ap (row_tests s) en
-      ∙ turned (every (stands_in s) (bookings s)) (pairs no_clash (bookings s)) (matches same_slot s.slots (summary_of (bookings s))) (chain comes (bookings s))
+      turned (every (stands_in s) (bookings s)) (pairs no_clash (bookings s)) (matches same_slot s.slots (summary_of (bookings s))) (chain comes (bookings s))
       (every is_blank (drop (held s) s.row))
       ∙ ap (λ (o : Bool). every (stands_in s) (bookings s) && (o && (every is_blank (drop (held s) s.row) && matches same_slot s.slots (summary_of (bookings s))))) in_order
 
-  -- bare, good and fit are what the tests gave
-  pub seat_tested : (bare good fit : Bool)
-      → bare ≡ is_bare s → good ≡ eqb (first_of (settings_refusals s.cell s.case s.k s.long s.short)) 0 → fit ≡ row_tests s n
-      → ((bare || (s.live && good)) && (leb s.count 40 && fit)) ≡ seat_ok s
-  unfolding seat_ok good_settings
-  seat_tested bare good fit eb eg ef = rw (eb, eg, ef, all_tests)
+  -- bare, good, row and rest are what the tests gave
+  pub seat_tested : (bare good row rest : Bool) → bare ≡ is_bare s → good ≡ good_settings s → row ≡ row_tests → rest ≡ every is_blank (drop (held s) s.row)
+      → ((bare || (s.live && good)) && (leb s.count 40 && (row && rest))) ≡ seat_ok s
+  unfolding seat_ok
+  seat_tested bare good row rest eb eg er et =
+      rw (eb, eg, er, et, all_tests)

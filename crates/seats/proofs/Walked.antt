@@ -10,7 +10,8 @@ use lib.Dec.{eqb}
 use lib.ListN.{length, take, set, get_or, length-take}
 use lib.Seq.{take-suc, get_or-take}
 use borrow.Author.Tests.{eqb-true}
-use Rattle.laws.specs.Lists.{every, pairs}
+use Rattle.std.specs.List.{list_all, zip}
+use Rattle.laws.specs.Lists.{every, pairs, matches}
 use Rattle.laws.proofs.Bools.{and_true, both}
 use Rattle.laws.proofs.Lists.{every_at, every_front, every_weaker, every_alike}
 use Rattle.laws.proofs.Some.{some_every}
@@ -63,6 +64,14 @@ module _ (l : List Booking) (x : Booking) (fx : Formed x) where
         ∙ ap (λ (o : Bool). o && not (hits_with (slot_of x.timeslot l) x)) eo
         ∙ while_free (pairs no_clash l) _ _ clear_of
         ∙ sym (pairs_behind no_clash l x)
+
+-- two lists as long as each other, pair by pair
+pub two_by_two : {A : Type 0} (r : A → A → Bool) (l m : List A) → length l ≡ length m → list_all (λ p. r p.0 p.1) (zip l m) ≡ matches r l m
+unfolding matches
+two_by_two r [] [] e = refl
+two_by_two r [] (y ∷ m) e = absurd (omega arith)
+two_by_two r (x ∷ l) [] e = absurd (omega arith)
+two_by_two r (x ∷ l) (y ∷ m) e = ap (λ (b : Bool). r x y && b) (two_by_two r l m (omega arith))
 
 pub one_more : (row : List Booking) (i : ℕ) (d : Booking) → i < length row → take (i + 1) row ≡ take i row ++ get_or row i d ∷ []
 one_more row i d lt = ap (λ (j : ℕ). take j row) (add-one i) ∙ take-suc row i d lt

@@ -6,15 +6,15 @@
 pub mod rules;
 pub mod valid;
 
-ghost use Rattle.std.specs.Prelude.{◌≡◌, ◌≤◌, min};
-ghost use Rattle.seats.specs.Seats.{blank, closed, opened};
+ghost use Rattle.std.specs.Prelude.{◌≡◌, ◌≤◌, drop};
+ghost use Rattle.seats.specs.Seats.{blank, closed, opened, held, bookings};
 
 use bookings::Booking;
 use conditions::Direction;
 use slots::Slot;
 
 // A seat. Closed, its numbers are zero, its row is blank and its timeslots are without bookings.
-#[derive(Clone, Copy)]
+#[derive(Clone, Copy, Debug, PartialEq, Eq)]
 pub struct Seat {
     pub live: bool,
     pub cell: u8,
@@ -43,21 +43,35 @@ pub fn blank_booking() -> Booking
     }
 }
 
-// How many bookings a count of any value stands for: a row has 40 places.
-pub fn held_by(count: u8) -> usize
-    ensures { (result ≡ min count 40) × (result ≤ 40) }
-{
-    if count < 40 { count as usize } else { 40 }
+impl Seat {
+    // How many bookings it holds, whatever its count says: a row has 40 places.
+    pub fn held(&self) -> usize
+        ensures { (result ≡ held self.now) × (result ≤ 40) }
+    {
+        usize::from(self.count.min(40))
+    }
+
+    // Its bookings as listed.
+    pub fn bookings(&self) -> &[Booking]
+        ensures { result.now ≡ bookings self.now }
+    {
+        &self.row[..self.held()]
+    }
+
+    // The places behind them.
+    pub fn rest(&self) -> &[Booking]
+        ensures { result.now ≡ drop (held self.now) self.now.row }
+    {
+        &self.row[self.held()..]
+    }
 }
 
 // A closed seat.
 pub fn closed_seat() -> Seat
     ensures { result ≡ closed }
 {
-    let none = blank_booking();
-    let row = [none; 40];
-    let free = slots::no_slot();
-    let slots = [free; 15];
+    let row = [blank_booking(); 40];
+    let slots = [slots::no_slot(); 15];
     Seat {
         live: false,
         cell: 0,
@@ -76,10 +90,6 @@ pub fn opened_seat(cell: u32, case: u32, k: u32, long: u32, short: u32) -> Seat
     requires { (cell ≤ 255) × (case ≤ 255) × (k ≤ 255) × (long ≤ 255) × (short ≤ 255) }
     ensures { result ≡ opened cell case k long short }
 {
-    let none = blank_booking();
-    let row = [none; 40];
-    let free = slots::no_slot();
-    let slots = [free; 15];
     Seat {
         live: true,
         cell: cell as u8,
@@ -87,8 +97,6 @@ pub fn opened_seat(cell: u32, case: u32, k: u32, long: u32, short: u32) -> Seat
         k: k as u8,
         long: long as u8,
         short: short as u8,
-        count: 0,
-        row,
-        slots,
+        ..closed_seat()
     }
 }

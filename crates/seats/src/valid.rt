@@ -1,11 +1,10 @@
 // Whether a seat meets its conditions.
-ghost use Rattle.std.specs.Prelude.{◌≡◌, true, not, ◌&&◌, ◌≤◌, eqb, take, drop};
+ghost use Rattle.std.specs.Prelude.{◌≡◌, not, ◌&&◌, eqb};
+ghost use Rattle.std.specs.List.{list_all, zip};
 ghost use Rattle.laws.specs.Lists.{every, chain, pairs, matches};
-ghost use Rattle.refusals.specs.Refusals.{first_of};
-ghost use Rattle.tables.specs.Tables.{settings_refusals};
 ghost use Rattle.bookings.specs.Bookings.{clash, comes};
 ghost use Rattle.slots.specs.Slots.{same_slot, summary_of};
-ghost use Rattle.seats.specs.Seats.{is_blank, stands, seat_ok};
+ghost use Rattle.seats.specs.Seats.{is_blank, is_bare, good_settings, stands_in, bookings, seat_ok};
 
 use crate::Seat;
 use bookings::Booking;
@@ -15,118 +14,98 @@ use slots::Slot;
 fn number_of(x: Booking) -> u64
     ensures { eqb result 0 ≡ is_blank x }
 {
-    let d = x.direction;
-    let down = conditions::is_down(d);
+    let down = x.direction.is_down();
     let control = (x.tfci as u64) + (x.tpc as u64) * 256;
     let code = (x.factor as u64)
         + ((x.index as u64) + ((x.user as u64) + control * 256) * 256) * 256;
     (x.timeslot as u64) + ((down as u64) + ((x.burst as u64) + code * 256) * 256) * 256
 }
 
-// Whether a booking may stand in a seat of these settings, the others left out.
-fn may_stand(case: u8, k: u8, long: u8, short: u8, x: Booking) -> bool
-    ensures { result ≡ stands case k long short x }
+// Whether a booking may stand in a seat, its other bookings left out.
+#[tactic(auto, using(crate::proofs::Passing::passed_number), unfolding(crate::specs::Seats::stands))]
+fn may_stand(s: &Seat, x: Booking) -> bool
+    ensures { result ≡ stands_in s.now x }
 {
-    let form = bookings::form_of(x);
-    if form != 0 {
-        return false;
-    }
-    let barred = crate::rules::not_permitted(long, short, x);
-    if barred {
-        return false;
-    }
-    let off = crate::rules::off_beacon(case, k, x);
-    !off
+    bookings::check_form(x).is_ok()
+        && (!crate::rules::not_permitted(s.long, s.short, x)
+            && !crate::rules::off_beacon(s.case, s.k, x))
 }
 
-// Whether of the first n each may stand, no two clash and each comes before its neighbour, the summary kept is what they say, and every place from n on is blank.
+// Whether each booking may stand, no two clash and each comes before its neighbour, and the summary kept is what they say.
 // Each is tested against what those before it say of its timeslot, and joins them; its key lies behind that of the one before it. Neighbours are enough for the order
-// of all pairs: bookings/proofs/Order.antt. Three loops in one function: each function that takes places of a row copies the row first.
-fn row_ok(
-    row: [Booking; 40],
-    n: usize,
-    kept: [Slot; 15],
-    case: u8,
-    k: u8,
-    long: u8,
-    short: u8,
-) -> bool
-    requires { n ≤ 40 }
-    ensures { result ≡ (every (stands case k long short) (take n row) && (((pairs (λ x y. not (clash x y)) (take n row) && matches same_slot kept (summary_of (take n row))) && chain comes (take n row)) && every is_blank (drop n row))) }
+// of all pairs: bookings/proofs/Order.antt.
+fn row_ok(s: &Seat) -> bool
+    ensures { result ≡ (every (stands_in s.now) (bookings s.now) && ((pairs (λ x y. not (clash x y)) (bookings s.now) && matches same_slot s.now.slots (summary_of (bookings s.now))) && chain comes (bookings s.now))) }
 {
-    let none = slots::no_slot();
-    let mut made = [none; 15];
-    let mut i: usize = 0;
+    let row = s.bookings();
+    let mut made = [slots::no_slot(); 15];
     let mut ok = true;
     let mut next: u32 = 0;
     let mut sorted = true;
-    while i < n {
-        let x = row[i];
-        let fit = may_stand(case, k, long, short, x);
-        if !fit {
+    for &x in row {
+        if !may_stand(s, x) {
             return false;
         }
         let t = x.timeslot as usize;
-        let s = made[t];
-        let hit = slots::hits(s, x);
-        ok = ok & !hit;
-        let more = slots::joined(s, x);
-        made[t] = more;
+        let there = made[t];
+        ok = ok & !slots::hits(there, x);
+        made[t] = slots::joined(there, x);
         let key = bookings::key_of(x);
         sorted = sorted & (next <= key);
         next = key + 1;
-        i += 1;
     }
-    let mut t: usize = 0;
-    while t < 15 {
-        let x = kept[t];
-        let y = made[t];
-        let same = slots::same_slot(x, y);
-        ok = ok & same;
-        t += 1;
-    }
-    let mut p = n;
+    (ok & same_slots(&s.slots, &made)) & sorted
+}
+
+// Whether two summaries say the same.
+fn same_slots(a: &[Slot; 15], b: &[Slot; 15]) -> bool
+    ensures { result ≡ list_all (λ p. same_slot p.0 p.1) (zip a.now b.now) }
+{
+    a.iter().zip(b).all(|(x, y)| slots::same_slot(*x, *y))
+}
+
+// Whether every place of these is blank. Their numbers are joined bit by bit, which takes several at a time; a test that stops at the first would not.
+fn all_blank(rest: &[Booking]) -> bool
+    ensures { result ≡ every is_blank rest.now }
+{
     let mut all: u64 = 0;
-    while p < 40 {
-        let x = row[p];
-        let b = number_of(x);
-        all = all | b;
-        p += 1;
+    for x in rest {
+        all = all | number_of(*x);
     }
-    (ok & sorted) & (all == 0)
+    all == 0
 }
 
 // A closed seat has no settings and holds nothing.
-fn is_bare(live: bool, cell: u8, case: u8, k: u8, long: u8, short: u8, count: u8) -> bool
-    ensures { result ≡ (not live && (eqb cell 0 && (eqb case 0 && (eqb k 0 && (eqb long 0 && (eqb short 0 && eqb count 0)))))) }
+#[tactic(auto, unfolding(crate::specs::Seats::is_bare))]
+fn is_bare(s: &Seat) -> bool
+    ensures { result ≡ is_bare s.now }
 {
-    !live
-        & ((cell == 0) & ((case == 0) & ((k == 0) & ((long == 0) & ((short == 0) & (count == 0))))))
+    !s.live
+        & ((s.cell == 0)
+            & ((s.case == 0) & ((s.k == 0) & ((s.long == 0) & ((s.short == 0) & (s.count == 0))))))
 }
 
 // An open seat's settings pass 1, 3 (no 0 left) and 9.
-fn settings_pass(cell: u8, case: u8, k: u8, long: u8, short: u8) -> bool
-    ensures { result ≡ eqb (first_of (settings_refusals cell case k long short)) 0 }
+#[tactic(auto, using(crate::proofs::Passing::passed_number), unfolding(crate::specs::Seats::good_settings))]
+fn settings_pass(s: &Seat) -> bool
+    ensures { result ≡ good_settings s.now }
 {
-    let n = tables::settings_refusal(
-        cell as u32,
-        case as u32,
-        k as u32,
-        long as u32,
-        short as u32,
+    let passed = tables::check_settings(
+        u32::from(s.cell),
+        u32::from(s.case),
+        u32::from(s.k),
+        u32::from(s.long),
+        u32::from(s.short),
     );
-    n == 0
+    passed.is_ok()
 }
 
 // Whether a seat meets its conditions.
-pub fn seat_ok(s: Seat) -> bool
-    ensures { result ≡ seat_ok s }
+pub fn seat_ok(s: &Seat) -> bool
+    ensures { result ≡ seat_ok s.now }
 {
-    let row = s.row;
-    let slots = s.slots;
-    let n = crate::held_by(s.count);
-    let bare = is_bare(s.live, s.cell, s.case, s.k, s.long, s.short, s.count);
-    let good = settings_pass(s.cell, s.case, s.k, s.long, s.short);
-    let fit = row_ok(row, n, slots, s.case, s.k, s.long, s.short);
+    let bare = is_bare(s);
+    let good = settings_pass(s);
+    let fit = row_ok(s) & all_blank(s.rest());
     (bare | (s.live & good)) & ((s.count <= 40) & fit)
 }

@@ -9,6 +9,7 @@ use native.Mathlib.Nat.{zero-add}
 use native.Mathlib.Omega.{arith}
 use lib.Bits.{bit_and}
 use lib.Dec.{eqb}
+use Rattle.std.specs.Prelude.{Some, None}
 use borrow.Author.Tests.{eqb-true, ne_eqb, not-true}
 use Rattle.laws.specs.Lists.{one, every, some, pairs, total}
 use Rattle.laws.proofs.Bools.{true_false, and_true}
@@ -24,7 +25,6 @@ use Rattle.leaves.proofs.Shared.{shared_leaf}
 use Rattle.bookings.specs.declared.Booking.{Booking}
 use Rattle.bookings.specs.Bookings.{overlaps, same_direction, mixed, clash}
 use Rattle.bookings.proofs.Clash.{eqb_turn, beside}
-use Rattle.slots.specs.declared.Way.TheVariants.{Neither, Up, Down}
 use Rattle.slots.specs.Slots.{is_in, covered_in, way_in, count_in, type_two_in, slot_of}
 use Rattle.slots.specs.Inside.{mask, turns_from, hits_with}
 
@@ -113,7 +113,7 @@ some_there t q [] e = e
 some_there t q (y ∷ l) e =
     ⊎_elim (λ a. rw (and_true (is_in t y) (q y) a).0) (λ s. rw (some_there t q l s) (or-true (is_in t y))) (either (is_in t y && q y) (some (λ y. is_in t y && q y) l) e)
 
-turn_told : (down there : Bool) (d : Direction) → (down ≡ true → there ≡ true) → turns_from (cond down Down (cond there Up Neither)) d ≡ (there && xor down (is_down d))
+turn_told : (down there : Bool) (d : Direction) → (down ≡ true → there ≡ true) → turns_from (cond down (Some dir.Down) (cond there (Some dir.Up) None)) d ≡ (there && xor down (is_down d))
 unfolding turns_from is_down xor
 turn_told true true dir.Up h = refl
 turn_told true true dir.Down h = refl

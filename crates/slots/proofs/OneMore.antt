@@ -8,6 +8,7 @@ use native.Mathlib.Nat.{zero-add}
 use native.Mathlib.Omega.{arith}
 use lib.Bits.{bit_or}
 use lib.Dec.{eqb}
+use Rattle.std.specs.Prelude.{Option, Some, None}
 use borrow.Author.Tests.{eq-eqb, ne_eqb}
 use Rattle.laws.specs.Lists.{one, some}
 use Rattle.laws.proofs.Some.{some_put, total_put}
@@ -17,14 +18,12 @@ use Rattle.conditions.specs.Conditions.{is_down}
 use Rattle.leaves.specs.Leaves.{covers, pattern}
 use Rattle.leaves.proofs.Patterns.{pattern_alike, or_pattern}
 use Rattle.bookings.specs.declared.Booking.{Booking}
-use Rattle.slots.specs.declared.Way.{Way}
-use Rattle.slots.specs.declared.Way.TheVariants.{Neither, Up, Down}
 use Rattle.slots.specs.declared.Slot.{Slot}
 use Rattle.slots.specs.Slots.{is_in, covered_in, way_in, count_in, type_two_in, slot_of}
 use Rattle.slots.specs.Inside.{mask, way_with, joined_with}
 
 -- the ways, by what some booking is
-way_more : (d : Direction) (down there : Bool) → cond (is_down d || down) Down Up ≡ way_with (cond down Down (cond there Up Neither)) d
+way_more : (d : Direction) (down there : Bool) → cond (is_down d || down) (Some dir.Down) (Some dir.Up) ≡ way_with (cond down (Some dir.Down) (cond there (Some dir.Up) None)) d
 unfolding way_with is_down
 way_more dir.Down true there = refl
 way_more dir.Down false true = refl
@@ -34,7 +33,7 @@ way_more dir.Up false true = refl
 way_more dir.Up false false = refl
 
 -- part by part
-same_slots : (m n : ℕ) (v w : Way) (c k : ℕ) (s u : Bool) → m ≡ n → v ≡ w → c ≡ k → s ≡ u
+same_slots : (m n : ℕ) (v w : Option Direction) (c k : ℕ) (s u : Bool) → m ≡ n → v ≡ w → c ≡ k → s ≡ u
     → ◌≡◌ {A = Slot} (record { leaves = m; way = v; count = c; second = s }) (record { leaves = n; way = w; count = k; second = u })
 same_slots m n v w c k s u em ev ec es = rw (em, ev, ec, es)
 

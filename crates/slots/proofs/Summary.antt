@@ -9,12 +9,13 @@ use native.Mathlib.Omega.{arith}
 use lib.Dec.{eqb}
 use lib.ListN.{length, get_or, set, length-set}
 use lib.Seq.{get_or-set_same, get_or-set_other, ext_get_or}
+use Rattle.std.specs.Prelude.{Option, Some, None}
 use borrow.Author.Tests.{eqb-true, eq-eqb}
 use Rattle.laws.proofs.Bools.{and_true}
 use Rattle.laws.proofs.Cases.{below, equal_or_not}
 use Rattle.bookings.specs.declared.Booking.{Booking}
-use Rattle.slots.specs.declared.Way.{Way}
-use Rattle.slots.specs.declared.Way.TheVariants.{Neither, Up, Down}
+use Rattle.conditions.specs.declared.Direction.{Direction}
+use Rattle.conditions.specs.declared.Direction.TheVariants as dir
 use Rattle.slots.specs.declared.Slot.{Slot}
 use Rattle.slots.specs.Slots.{slot_of, summary_of, way_number, same_slot}
 
@@ -41,17 +42,17 @@ summary_set l m t v low ev others =
     (equal_or_not u t))
 
 -- ---- the test of two slots
-way_only : (v w : Way) → way_number v ≡ way_number w → v ≡ w
+way_only : (v w : Option Direction) → way_number v ≡ way_number w → v ≡ w
 unfolding way_number
-way_only Up Up e = refl
-way_only Down Down e = refl
-way_only Neither Neither e = refl
-way_only Up Down e = absurd (omega arith)
-way_only Up Neither e = absurd (omega arith)
-way_only Down Up e = absurd (omega arith)
-way_only Down Neither e = absurd (omega arith)
-way_only Neither Up e = absurd (omega arith)
-way_only Neither Down e = absurd (omega arith)
+way_only (Some dir.Up) (Some dir.Up) e = refl
+way_only (Some dir.Down) (Some dir.Down) e = refl
+way_only None None e = refl
+way_only (Some dir.Up) (Some dir.Down) e = absurd (omega arith)
+way_only (Some dir.Up) None e = absurd (omega arith)
+way_only (Some dir.Down) (Some dir.Up) e = absurd (omega arith)
+way_only (Some dir.Down) None e = absurd (omega arith)
+way_only None (Some dir.Up) e = absurd (omega arith)
+way_only None (Some dir.Down) e = absurd (omega arith)
 
 truth_only : (a b : Bool) → not (xor a b) ≡ true → a ≡ b
 unfolding xor
@@ -69,7 +70,7 @@ same_only a b e =
     equal a.leaves a.way a.count a.second b.leaves b.way b.count b.second
     (eqb-true _ _ p.0) (way_only _ _ (eqb-true _ _ q.0)) (eqb-true _ _ r.0) (truth_only _ _ r.1)
   where
-    equal : (m : ℕ) (v : Way) (c : ℕ) (s : Bool) (n : ℕ) (w : Way) (k : ℕ) (u : Bool) → m ≡ n → v ≡ w → c ≡ k → s ≡ u
+    equal : (m : ℕ) (v : Option Direction) (c : ℕ) (s : Bool) (n : ℕ) (w : Option Direction) (k : ℕ) (u : Bool) → m ≡ n → v ≡ w → c ≡ k → s ≡ u
         → ◌≡◌ {A = Slot} (record { leaves = m; way = v; count = c; second = s }) (record { leaves = n; way = w; count = k; second = u })
     equal m v c s n w k u em ev ec es = rw (em, ev, ec, es)
 

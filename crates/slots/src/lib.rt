@@ -1,6 +1,6 @@
 // What a seat's bookings say of one timeslot (document 02, C-16), kept beside them: which leaves are covered, which direction, how many, and whether they are type 2.
 // A booking is tested against it, and joins it, by the mask of its code.
-#![tactic(auto)]
+#![tactic(auto, unfolding(crate::specs::Inside::no_slot, crate::specs::Inside::way_with, crate::specs::Inside::joined_with, crate::specs::Inside::turns_from, crate::specs::Inside::hits_with, crate::specs::Slots::way_number, conditions::specs::Conditions::is_down))]
 
 ghost use Rattle.std.specs.Prelude.{◌≡◌, false, not, ◌<◌, eqb};
 ghost use Rattle.std.specs.Int.Bits.{bit_and};
@@ -11,19 +11,11 @@ ghost use Rattle.slots.specs.Inside.{no_slot, mask, way_with, joined_with, turns
 use bookings::Booking;
 use conditions::Direction;
 
-// The direction of a timeslot's bookings, or that there is none.
-#[derive(Clone, Copy)]
-pub enum Way {
-    Neither,
-    Up,
-    Down,
-}
-
-// One timeslot of a seat. Leaf l is bit 2^l of the pattern.
-#[derive(Clone, Copy)]
+// One timeslot of a seat. Leaf l is bit 2^l of the pattern; the way is the direction of its bookings, where it has any.
+#[derive(Clone, Copy, Debug, PartialEq, Eq)]
 pub struct Slot {
     pub leaves: u16,
-    pub way: Way,
+    pub way: Option<Direction>,
     pub count: u8,
     pub second: bool,
 }
@@ -34,25 +26,17 @@ pub fn no_slot() -> Slot
 {
     Slot {
         leaves: 0,
-        way: Way::Neither,
+        way: None,
         count: 0,
         second: false,
     }
 }
 
 // The way of a timeslot that gets one booking more.
-fn way_with(w: Way, d: Direction) -> Way
+fn way_with(w: Option<Direction>, d: Direction) -> Option<Direction>
     ensures { result ≡ way_with w d }
 {
-    let down = conditions::is_down(d);
-    if down {
-        return Way::Down;
-    }
-    match w {
-        Way::Neither => Way::Up,
-        Way::Up => Way::Up,
-        Way::Down => Way::Down,
-    }
+    if d.is_down() { Some(d) } else { w.or(Some(d)) }
 }
 
 // A timeslot with one booking more. Public for the crates seats and plans, whose bookings have been tested before.
@@ -60,30 +44,21 @@ pub fn joined(s: Slot, x: Booking) -> Slot
     requires { (bad_code x.factor x.index ≡ false) × (s.count < 255) }
     ensures { result ≡ joined_with s x }
 {
-    let m = leaves::mask_of(x.factor, x.index);
-    let w = s.way;
-    let d = x.direction;
-    let way = way_with(w, d);
-    let leaves = s.leaves | m;
-    let count = s.count + 1;
-    let second = s.second | (x.burst == 2);
     Slot {
-        leaves,
-        way,
-        count,
-        second,
+        leaves: s.leaves | leaves::mask_of(x.factor, x.index),
+        way: way_with(s.way, x.direction),
+        count: s.count + 1,
+        second: s.second | (x.burst == 2),
     }
 }
 
 // Whether a direction is another than that of the bookings there.
-fn turns_from(w: Way, d: Direction) -> bool
+fn turns_from(w: Option<Direction>, d: Direction) -> bool
     ensures { result ≡ turns_from w d }
 {
-    let down = conditions::is_down(d);
     match w {
-        Way::Neither => false,
-        Way::Up => down,
-        Way::Down => !down,
+        Some(there) => there != d,
+        None => false,
     }
 }
 
@@ -99,23 +74,20 @@ pub fn hits(s: Slot, x: Booking) -> bool
     requires { bad_code x.factor x.index ≡ false }
     ensures { result ≡ hits_with s x }
 {
-    let m = leaves::mask_of(x.factor, x.index);
-    let w = s.way;
-    let d = x.direction;
-    let over = shares(s.leaves, m);
-    let turn = turns_from(w, d);
+    let over = shares(s.leaves, leaves::mask_of(x.factor, x.index));
+    let turn = turns_from(s.way, x.direction);
     let mix = !(s.count == 0) & (s.second ^ (x.burst == 2));
     over | (turn | mix)
 }
 
 // The way as a number: 0 up, 1 down, 2 neither.
-pub fn way_number(w: Way) -> u8
+pub fn way_number(w: Option<Direction>) -> u8
     ensures { result ≡ way_number w }
 {
     match w {
-        Way::Up => 0,
-        Way::Down => 1,
-        Way::Neither => 2,
+        Some(Direction::Up) => 0,
+        Some(Direction::Down) => 1,
+        None => 2,
     }
 }
 
@@ -123,9 +95,5 @@ pub fn way_number(w: Way) -> u8
 pub fn same_slot(a: Slot, b: Slot) -> bool
     ensures { result ≡ same_slot a b }
 {
-    let v = a.way;
-    let w = b.way;
-    let m = way_number(v);
-    let n = way_number(w);
-    (a.leaves == b.leaves) & ((m == n) & ((a.count == b.count) & !(a.second ^ b.second)))
+    a == b
 }

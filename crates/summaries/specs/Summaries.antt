@@ -1,7 +1,7 @@
 -- Document 02, C-16, "Free codes at a glance": what the call answers. Cited by the promise of `summaries::summary`, and by the crates demand and facts.
 -- Assumes nothing.
 use Rattle.std.specs.Prelude.{◌∷◌, ℕ}
-use Rattle.refusals.specs.Refusals.{Answer, refused, answered, Refusals, first_of, answer}
+use Rattle.refusals.specs.Refusals.{Answer, Refusals, first_of, answer}
 use Rattle.conditions.specs.Conditions.{bad_timeslot}
 use Rattle.slots.specs.declared.Slot.{Slot}
 use Rattle.slots.specs.Slots.{slot_of}
@@ -10,8 +10,6 @@ use Rattle.classbook.specs.declared.Book.{Book}
 use Rattle.classbook.specs.Book.{seat_of}
 use Rattle.classbook.specs.Calls.{seat_refusals}
 use Rattle.summaries.specs.declared.Glance.{Glance}
-use Rattle.summaries.specs.declared.SummaryReply.{SummaryReply}
-use Rattle.summaries.specs.declared.SummaryReply.TheVariants as reply
 
 -- "Refusals: 5, 12, 13, 14 as they stand."
 unfoldable pub summary_refusals : Book → ℕ → ℕ → Refusals
@@ -24,8 +22,3 @@ glance_of s = record { leaves = s.leaves; way = s.way; count = s.count }
 -- "It must equal what the bookings themselves say": refused, or that, of the seat and timeslot that are named
 unfoldable pub summary_answer : Book → ℕ → ℕ → Answer Glance
 summary_answer b seat timeslot = answer (first_of (summary_refusals b seat timeslot)) (glance_of (slot_of timeslot (bookings (seat_of b seat))))
-
--- what each case of an answer says
-unfoldable pub said_summary : SummaryReply → Answer Glance
-said_summary (reply.Refused n) = refused n
-said_summary (reply.Summed s) = answered s

@@ -2,55 +2,42 @@
 #![tactic(auto)]
 
 ghost use Rattle.std.specs.Prelude.{◌≡◌};
-ghost use Rattle.refusals.specs.Refusals.{answered};
-ghost use Rattle.summaries.specs.Summaries.{glance_of, summary_answer, said_summary};
+ghost use Rattle.refusals.specs.Refusals.{said};
+ghost use Rattle.summaries.specs.Summaries.{glance_of, summary_answer};
 
 use classbook::Book;
-use slots::{Slot, Way};
+use conditions::Direction;
+use refusals::Refusal;
+use slots::Slot;
 
 // The leaves that are covered, leaf l being bit 2^l; the direction of the bookings, or that there is none; and how many they are.
-#[derive(Clone, Copy)]
+#[derive(Clone, Copy, Debug, PartialEq, Eq)]
 pub struct Glance {
     pub leaves: u16,
-    pub way: Way,
+    pub way: Option<Direction>,
     pub count: u8,
 }
 
-// What a summary answers: a refusal's number, or the summary.
-#[derive(Clone, Copy)]
-pub enum SummaryReply {
-    Refused(u32),
-    Summed(Glance),
-}
-
 // Of what is kept, what is answered.
-fn given(s: Slot) -> SummaryReply
-    ensures { said_summary result ≡ answered (glance_of s) }
-{
-    let way = s.way;
-    let seen = Glance {
-        leaves: s.leaves,
-        way,
-        count: s.count,
-    };
-    SummaryReply::Summed(seen)
+impl From<Slot> for Glance {
+    ghost from_gives = { λ s g. g ≡ glance_of s };
+
+    #[tactic(auto, unfolding(crate::specs::Summaries::glance_of))]
+    fn from(s: Slot) -> Glance {
+        Glance {
+            leaves: s.leaves,
+            way: s.way,
+            count: s.count,
+        }
+    }
 }
 
 // Which codes of a timeslot a seat has free. Refusals: 5, 12, 13, 14.
-pub fn summary(b: Book, seat: u32, timeslot: u32) -> SummaryReply
-    ensures { said_summary result ≡ summary_answer b seat timeslot }
+#[tactic(auto, unfolding(conditions::specs::Conditions::bad_timeslot))]
+pub fn summary(b: &Book, seat: u32, timeslot: u32) -> Result<Glance, Refusal>
+    ensures { said result ≡ summary_answer b.now seat timeslot }
 {
-    let five = conditions::bad_timeslot(timeslot);
-    if five {
-        return SummaryReply::Refused(5);
-    }
-    let a = classbook::seat_asked(b, seat);
-    if a.refusal != 0 {
-        return SummaryReply::Refused(a.refusal);
-    }
-    let t = timeslot as usize;
-    let s = a.seat;
-    let kept = s.slots;
-    let slot = kept[t];
-    given(slot)
+    Refusal::Timeslot.when(conditions::bad_timeslot(timeslot))?;
+    let s = classbook::seat_asked(b, seat)?;
+    Ok(Glance::from(s.slots[timeslot as usize]))
 }

@@ -29,4 +29,4 @@ as-defined x down a b d ed ea eb eu = rw (ea, eb, eu, ed) (one-of-six _ _ _ _ _ 
 
 pub returns : goal.returns
 returns c =
-    as-defined _ _ _ _ _ c.is_down-down.ensures c.off_type-a.ensures c.off_first-b.ensures c.off_user-d.ensures
+    as-defined _ _ _ _ _ c.is_down.ensures c.off_type-a.ensures c.off_first-b.ensures c.off_user-d.ensures

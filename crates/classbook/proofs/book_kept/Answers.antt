@@ -1,43 +1,48 @@
 -- `classbook::book_kept` meets its contract: refused by book, seat and room, or the booking stands in its place.
 -- Assumes nothing.
 use mathlib.Core.Path.{sym, ap, ◌∙◌}
+use native.Mathlib.Omega.{arith}
+use Rattle.refusals.specs.Refusals.{number_of}
 use Rattle.bookings.proofs.Formed.{formed}
 use Rattle.seats.specs.declared.Seat.{Seat}
 use Rattle.classbook.specs.Book.{with_seat}
-use Rattle.classbook.specs.Calls.{with_book}
 use Rattle.classbook.specs.Inside.{booking_answer}
 use Rattle.classbook.proofs.Answers.{refused_by, made_by}
+use Rattle.classbook.proofs.Passed.{booking_passed}
 use Rattle.classbook.proofs.Tables.{booking_table}
 use Rattle.classbook.proofs.Made.{found_good, booking_ready, booked_made}
 use Rattle.classbook.proofs.book_kept.Goals as goal
 
-pub booking_refusal-n-requires : goal.booking_refusal-n-requires
-booking_refusal-n-requires c =
+pub check_booking-requires : goal.check_booking-requires
+check_booking-requires c =
     let e = c.check-found.ensures in
     let f = formed c.args.x c.requires in
-    (f.timeslot_good, f.code_good, found_good c.args.b c.args.seat c.check-found.result.seat e.2 c.check-found.result.ok c.well_formed.0.1.1.0.1.0.1 e.0)
+    (f.timeslot_good, f.code_good, found_good c.args.b.now c.args.seat c.check-found.result.seat e.2 c.check-found.result.ok (omega arith) e.0)
 
-pub returns-then-n-ne0 : goal.returns-then-n-ne0
+pub returns-in_err-check_booking : goal.returns-in_err-check_booking
 unfolding booking_answer
-returns-then-n-ne0 c =
+returns-in_err-check_booking c =
     let e = c.check-found.ensures in
-    let number = booking_table c.args.b c.args.seat _ _ _ e.0 e.2 c.args.x _ e.1 c.booking_refusal-n.ensures in
-    refused_by _ _ _ _ number c.if-n-ne0.true
+    refused_by _ _ _ _ _ c.from_residual.ensures.1
+    (booking_table c.args.b.now c.args.seat (number_of c.in_err-check_booking.field-0.0) _ _ e.0 e.2 c.args.x _ e.1 c.in_err-check_booking.ensures)
 
-pub with_booking-more-requires : goal.with_booking-more-requires
-with_booking-more-requires c =
+pub with_booking-requires : goal.with_booking-requires
+with_booking-requires c =
     let e = c.check-found.ensures in
-    let number = booking_table c.args.b c.args.seat _ _ _ e.0 e.2 c.args.x _ e.1 c.booking_refusal-n.ensures in
-    let ready = booking_ready c.args.b c.args.seat _ e.2 c.args.x
-    c.well_formed.0.1.1.0.1.0.1 (sym number ∙ c.if-n-ne0.false) in
+    let z = booking_table c.args.b.now c.args.seat 0 _ _ e.0 e.2 c.args.x _ e.1 c.in_ok-check_booking.ensures in
+    let ready = booking_ready c.args.b.now c.args.seat _ e.2 c.args.x (omega arith) (sym z) in
     let f = formed c.args.x c.requires in
     (ready.0, ready.1, f.timeslot_good, f.code_good)
+
+pub exchange-requires : goal.exchange-requires
+exchange-requires c =
+    let e = c.check-found.ensures in
+    let z = booking_table c.args.b.now c.args.seat 0 _ _ e.0 e.2 c.args.x _ e.1 c.in_ok-check_booking.ensures in
+    omega (arith, (booking_passed c.args.b.now c.args.seat c.args.x (sym z)).seat_low)
 
 pub returns : goal.returns
 unfolding booking_answer
 returns c =
     let e = c.check-found.ensures in
-    let number = booking_table c.args.b c.args.seat _ _ _ e.0 e.2 c.args.x _ e.1 c.booking_refusal-n.ensures in
-    ◌∙◌ {b = with_book 0 c.args.b (with_seat c.args.b c.args.seat c.with_booking-more.result)} c.exchanged.ensures
-    (made_by _ _ _ _ _ number c.if-n-ne0.false
-    (ap (λ (s : Seat). with_seat c.args.b c.args.seat s) c.with_booking-more.ensures ∙ booked_made c.args.b c.args.seat _ e.2 c.args.x))
+    made_by _ _ _ _ (booking_table c.args.b.now c.args.seat 0 _ _ e.0 e.2 c.args.x _ e.1 c.in_ok-check_booking.ensures)
+    (c.exchange.ensures ∙ ap (λ (s : Seat). with_seat c.args.b.now c.args.seat s) c.with_booking.ensures ∙ booked_made c.args.b.now c.args.seat _ e.2 c.args.x)

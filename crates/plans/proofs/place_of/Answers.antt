@@ -1,30 +1,24 @@
--- `plans::place_of` meets its contract: what was counted and what is left to count make the rank.
+-- `plans::place_of` meets its contract: the rank is how many come before.
 -- Assumes nothing.
-use mathlib.Core.Path.{ap, ◌∙◌}
-use native.Mathlib.Omega.{arith}
+use mathlib.Core.Path.{◌≡◌, refl, sym, ◌∙◌}
+use mathlib.Core.Logic.{⊎_elim}
+use mathlib.Core.List.{List}
 use native.Mathlib.Nat.{zero-add}
-use Rattle.laws.specs.Lists.{one}
-use Rattle.laws.proofs.Rows.{turn_sum, ended_sum}
+use borrow.Author.Rules.{rules}
+use Rattle.std.specs.List.{count_by}
+use Rattle.std.proofs.lemmas.List.Recursion.{is_count_by}
+use Rattle.laws.specs.Lists.{total}
+use Rattle.laws.proofs.Cases.{by_cases}
+use Rattle.bookings.specs.declared.Booking.{Booking}
 use Rattle.bookings.specs.Bookings.{comes}
 use Rattle.seats.specs.Seats.{rank}
 use Rattle.plans.proofs.place_of.Goals as goal
 
-pub loop-i-init : goal.loop-i-init
-unfolding rank
-loop-i-init c = (omega arith, zero-add _)
-
-pub overflow_add-at : goal.overflow_add-at
-overflow_add-at c = omega (arith, c.one_if-at.ensures.1)
-
-pub loop-i-preserved : goal.loop-i-preserved
-loop-i-preserved c =
-    let l = c.loop-i in (
-      omega (arith, c.one_if-at.ensures.1),
-      turn_sum c.args.row c.args.n l.i (λ y. one (comes y c.args.x)) _ l.at c.one_if-at.result _
-          (omega arith) (omega (arith, c.well_formed.0.1.0.1)) l.invariant.1 (c.one_if-at.ensures.0 ∙ ap one c.comes_before-c.ensures),
-    )
+counted : (x : Booking) (l : List Booking) → rank x l ≡ count_by (λ y. comes y x) l
+unfolding rank total
+counted x l = is_count_by (rank x) (λ y. comes y x) refl (λ y r. ⊎_elim (λ h. rw h refl) (λ h. rw h (zero-add _)) (by_cases (comes y x))) l
 
 pub returns : goal.returns
 returns c =
-    ended_sum c.args.row c.args.n c.loop-i.i
-    (λ y. one (comes y c.args.x)) c.loop-i.at _ (omega arith) c.loop-i.invariant.1
+    let many : c.count.result ≡ count_by (λ y. comes y c.args.x) c.args.list.now = search rules in
+    many ∙ sym (counted c.args.x c.args.list.now)

@@ -2,13 +2,15 @@
 -- Assumes nothing.
 use mathlib.Core.Path.{◌≡◌, ap, ◌∙◌}
 use mathlib.Core.List.{List, [], ◌∷◌, ◌++◌}
-use Prim.Native.Nat.{ℕ, ◌-◌, ◌≤◌}
+use Prim.Native.Nat.{ℕ, ◌-◌}
 use native.Mathlib.Omega.{arith}
-use lib.ListN.{get_or}
-use Rattle.laws.specs.Lists.{remove_at}
+use lib.ListN.{length, take, get_or, length-take}
+use Rattle.laws.specs.Lists.{every, remove_at}
 use Rattle.bookings.specs.declared.Booking.{Booking}
 use Rattle.slots.specs.Slots.{slot_of}
-use Rattle.seats.specs.Seats.{blank}
+use Rattle.slots.proofs.ByMasks.{good_code}
+use Rattle.seats.specs.Seats.{blank, held}
+use Rattle.seats.proofs.Sound.{sound}
 use Rattle.plans.proofs.Carried.{carried_out}
 use Rattle.plans.proofs.Plans.{taken_out_at, gone_low, left_told, left_good}
 use Rattle.plans.proofs.without_at.Goals as goal
@@ -19,26 +21,30 @@ moved row p b r eb er = er ∙ ap (λ (y : Booking). remove_at p (row ++ y ∷ [
 
 pub slot_of-fewer-requires : goal.slot_of-fewer-requires
 slot_of-fewer-requires c =
-    let s = c.args.s in
-    let few : c.held_by-n.result - 1 ≤ 40 = omega (arith, c.held_by-n.ensures.1) in (
-      few,
-      left_good s c.requires.0 c.well_formed.0.1.1.1.1.1.1.1.1.1.0.1.0.1 c.args.p c.held_by-n.result c.take_out-next.result c.requires.1 c.held_by-n.ensures.0
-          (moved s.row c.args.p c.blank_booking-none.result c.take_out-next.result c.blank_booking-none.ensures c.take_out-next.ensures),
+    let s = c.args.s.now in
+    let wide = c.take_out.ensures.wide in
+    let few = (sound s c.requires.0).few in
+    let row = moved s.row c.args.p c.blank_booking.result c.take_out.new.row c.blank_booking.ensures c.take_out.ensures.moved in
+    let left : c.bookings.result.now ≡ take (s.count - 1) c.take_out.new.row = c.bookings.ensures ∙ ap (λ (k : ℕ). take k c.take_out.new.row) (omega (arith, few)) in (
+      omega (arith, ap length left, length-take (s.count - 1) c.take_out.new.row, few),
+      ap (every good_code) left ∙ left_good s c.requires.0 wide c.args.p s.count c.take_out.new.row c.requires.1 (omega (arith, few)) row,
     )
 
-pub bounds-kept-t : goal.bounds-kept-t
-bounds-kept-t c =
-    let s = c.args.s in
-    omega (arith, gone_low s c.requires.0 c.well_formed.0.1.1.1.1.1.1.1.1.1.0.1.0.1 c.args.p c.requires.1)
+pub bounds-s-t : goal.bounds-s-t
+bounds-s-t c =
+    let s = c.args.s.now in
+    omega (arith, gone_low s c.requires.0 c.take_out.ensures.wide c.args.p c.requires.1)
 
 pub returns : goal.returns
 returns c =
-    let s = c.args.s in
-    let wide = c.well_formed.0.1.1.1.1.1.1.1.1.1.0.1.0.1 in
-    let row = moved s.row c.args.p c.blank_booking-none.result c.take_out-next.result c.blank_booking-none.ensures c.take_out-next.ensures in
-    carried_out s c.held_by-n.result c.args.p c.blank_booking-none.result c.take_out-next.result c.slot_of-fewer.result
-    c.held_by-n.ensures.0 c.blank_booking-none.ensures c.take_out-next.ensures
-    ∙ taken_out_at s c.requires.0 wide c.args.p c.requires.1 (gone_low s c.requires.0 wide c.args.p c.requires.1) c.slot_of-fewer.result
-    (c.slot_of-fewer.ensures
-    ∙ ap (λ (l : List Booking). slot_of (get_or s.row c.args.p blank).timeslot l)
-    (left_told s c.requires.0 wide c.args.p c.held_by-n.result c.take_out-next.result c.requires.1 c.held_by-n.ensures.0 row))
+    let s = c.args.s.now in
+    let p = c.args.p in
+    let wide = c.take_out.ensures.wide in
+    let few = (sound s c.requires.0).few in
+    let count : s.count ≡ held s = omega (arith, few) in
+    let row = moved s.row p c.blank_booking.result c.take_out.new.row c.blank_booking.ensures c.take_out.ensures.moved in
+    let left : c.bookings.result.now ≡ take (s.count - 1) c.take_out.new.row = c.bookings.ensures ∙ ap (λ (k : ℕ). take k c.take_out.new.row) (omega (arith, few)) in
+    let t = (get_or s.row p blank).timeslot in
+    carried_out s s.count p c.blank_booking.result c.take_out.new.row c.slot_of-fewer.result count c.blank_booking.ensures c.take_out.ensures.moved
+    ∙ taken_out_at s c.requires.0 wide p c.requires.1 (gone_low s c.requires.0 wide p c.requires.1) c.slot_of-fewer.result
+    (c.slot_of-fewer.ensures ∙ ap (slot_of t) (left ∙ left_told s c.requires.0 wide p s.count c.take_out.new.row c.requires.1 count row))

@@ -18,4 +18,4 @@ as-defined s x m over turn em eo et = rw (eo, em, et)
 pub returns : goal.returns
 unfolding xor
 returns c =
-    as-defined _ _ _ _ _ c.mask_of-m.ensures c.shares-over.ensures c.turns_from-turn.ensures
+    as-defined _ _ _ _ _ c.mask_of.ensures c.shares-over.ensures c.turns_from-turn.ensures

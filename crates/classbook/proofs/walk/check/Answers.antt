@@ -19,40 +19,40 @@ as-defined : (b : Book) (ok : Bool) (used : ℕ) → ok ≡ every seat_ok b.seat
 unfolding book_ok common
 as-defined b ok used eo eu = (rw (eo, eu), eu)
 
-pub loop-i-init : goal.loop-i-init
-loop-i-init c =
-    let h : length c.args.b.seats ≡ 16 = c.well_formed.0.1.1.0.1.0.1 in
-    let whole = take_all 16 c.args.b.seats (omega arith) in
+pub loop-s-init : goal.loop-s-init
+loop-s-init c =
+    let h : length c.args.b.now.seats ≡ 16 = omega arith in
+    let whole = take_all 16 c.args.b.now.seats (omega arith) in
     (ap (every seat_ok) whole, omega arith, zero-add _ ∙ ap (total beyond) whole)
 
-pub loop-i-preserved : goal.loop-i-preserved
+pub loop-s-preserved : goal.loop-s-preserved
 unfolding every
-loop-i-preserved c =
-    let l = c.loop-i in
-    let seats = c.args.b.seats in
-    let h : length seats ≡ 16 = c.well_formed.0.1.1.0.1.0.1 in
+loop-s-preserved c =
+    let l = c.loop-s in
+    let seats = c.args.b.now.seats in
+    let h : length seats ≡ 16 = omega arith in
     let e = c.passed-t.ensures in (
-      ap (λ (ok : Bool). ok && every seat_ok (drop (l.i + 1) (take 16 seats))) e.0
-          ∙ turn seats 16 l.i (every seat_ok) (λ x _. seat_ok x) (λ x l. refl) _ l.t.ok _ _ (omega arith) (omega arith) l.invariant.0 refl,
+      ap (λ (ok : Bool). ok && every seat_ok (drop (l.s-index + 1) (take 16 seats))) e.0
+          ∙ turn seats 16 l.s-index (every seat_ok) (λ x _. seat_ok x) (λ x l. refl) _ l.t.ok _ _ (omega arith) (omega arith) l.invariant.0 refl,
       omega (arith, e.1, l.invariant.1),
-      ap (λ (n : ℕ). n + total beyond (drop (l.i + 1) (take 16 seats))) e.1
-          ∙ turn_sum seats 16 l.i beyond _ l.t.used _ _ (omega arith) (omega arith) l.invariant.2 refl,
+      ap (λ (n : ℕ). n + total beyond (drop (l.s-index + 1) (take 16 seats))) e.1
+          ∙ turn_sum seats 16 l.s-index beyond _ l.t.used _ _ (omega arith) (omega arith) l.invariant.2 refl,
     )
 
 pub returns-then-seat-lt16 : goal.returns-then-seat-lt16
 unfolding every seat_of
 returns-then-seat-lt16 c =
-    let l = c.loop-i in
-    let h : length c.args.b.seats ≡ 16 = c.well_formed.0.1.1.0.1.0.1 in
-    let e = as-defined c.args.b l.t.ok l.t.used (ended c.args.b.seats 16 l.i (every seat_ok) refl l.t.ok _ (omega arith) l.invariant.0)
-    (ended_sum c.args.b.seats 16 l.i beyond l.t.used _ (omega arith) l.invariant.2) in
-    (e.0, e.1, get_d_any c.args.b.seats c.args.seat _ closed (omega arith))
+    let l = c.loop-s in
+    let h : length c.args.b.now.seats ≡ 16 = omega arith in
+    let e = as-defined c.args.b.now l.t.ok l.t.used (ended c.args.b.now.seats 16 l.s-index (every seat_ok) refl l.t.ok _ (omega arith) l.invariant.0)
+    (ended_sum c.args.b.now.seats 16 l.s-index beyond l.t.used _ (omega arith) l.invariant.2) in
+    (e.0, e.1, get_d_any c.args.b.now.seats c.args.seat _ closed (omega arith))
 
-pub returns : goal.returns
+pub returns-else-seat-lt16 : goal.returns-else-seat-lt16
 unfolding every seat_of
-returns c =
-    let l = c.loop-i in
-    let h : length c.args.b.seats ≡ 16 = c.well_formed.0.1.1.0.1.0.1 in
-    let e = as-defined c.args.b l.t.ok l.t.used (ended c.args.b.seats 16 l.i (every seat_ok) refl l.t.ok _ (omega arith) l.invariant.0)
-    (ended_sum c.args.b.seats 16 l.i beyond l.t.used _ (omega arith) l.invariant.2) in
-    (e.0, e.1, c.closed_seat-none.ensures ∙ sym (get_or-eq_default c.args.b.seats closed {n = c.args.seat} (omega arith)))
+returns-else-seat-lt16 c =
+    let l = c.loop-s in
+    let h : length c.args.b.now.seats ≡ 16 = omega arith in
+    let e = as-defined c.args.b.now l.t.ok l.t.used (ended c.args.b.now.seats 16 l.s-index (every seat_ok) refl l.t.ok _ (omega arith) l.invariant.0)
+    (ended_sum c.args.b.now.seats 16 l.s-index beyond l.t.used _ (omega arith) l.invariant.2) in
+    (e.0, e.1, c.closed_seat.ensures ∙ sym (get_or-eq_default c.args.b.now.seats closed {n = c.args.seat} (omega arith)))

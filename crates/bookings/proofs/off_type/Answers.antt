@@ -1,7 +1,0 @@
--- `bookings::off_type` meets its contract: its tests are those of the promise.
--- Assumes nothing.
-use mathlib.Core.Path.{refl}
-use Rattle.bookings.proofs.off_type.Goals as goal
-
-pub returns : goal.returns
-returns c = refl

@@ -10,7 +10,10 @@ use lib.Dec.{lit≤}
 use lib.IntN.{ℤ, pos}
 use lib.Ieee.{Float}
 use borrow.Author.Tests.{not-false}
-use Rattle.refusals.specs.Refusals.{answered, ◌leaving◌, first_of}
+use Rattle.std.specs.Prelude.{Result, Ok}
+use Rattle.refusals.specs.declared.Refusal.{Refusal}
+use Rattle.refusals.specs.Refusals.{answered, ◌leaving◌, first_of, said, said_as}
+use Rattle.refusals.proofs.Numbers.{said_as_once}
 use Rattle.refusals.proofs.First.{first_none, answer_answered}
 use Rattle.conditions.specs.Conditions.{bad_cell, bad_type, bad_count, bad_user}
 use Rattle.tables.specs.Tables.{user_refusals}
@@ -19,15 +22,14 @@ use Rattle.codes.proofs.Numbers.{of_codes}
 use Rattle.codes.proofs.Permitted.{user_low}
 use Rattle.midambles.specs.TrainingSequences.{chip_of, chips_of}
 use Rattle.signal_card.specs.SignalCard.{pair_of, f32_of, floats_of}
-use Rattle.signal_card.specs.declared.PairsAnswer.TheVariants as wrote
-use Rattle.signal_card.specs.Calls.{pairs_outcome, said_pairs}
+use Rattle.signal_card.specs.Calls.{pairs_outcome}
 use Rattle.signal_card.proofs.Answers.{level_inside, row_good, pairs_given}
 use Rattle.correlation.specs.Correlation.{sample_at, real_sum, imaginary_sum}
 use Rattle.hearing.specs.Hearing.{strength}
-use Rattle.hearing.specs.Calls.{somebody, hear_refusals, heard_of, who_is_heard, hear_answer, said_hear}
-use Rattle.hearing.specs.declared.HearAnswer.{HearAnswer}
-use Rattle.hearing.specs.declared.HearAnswer.TheVariants as heard
-use Rattle.hearing.proofs.Unique.{said_hear_once}
+use Rattle.hearing.specs.Calls.{somebody, hear_refusals, heard_of, who_is_heard, hear_answer, heard_meant}
+use Rattle.hearing.specs.declared.Heard.{Heard}
+use Rattle.hearing.specs.declared.Heard.TheVariants as heard
+use Rattle.hearing.proofs.Unique.{heard_meant_once}
 use Rattle.clean_copies.specs.CleanCopies.{Alone}
 use Rattle.clean_copies.proofs.WhoIsHeard.{user_high}
 use Rattle.clean_copies.proofs.Loudest.{heard_best}
@@ -119,9 +121,9 @@ module _ (cell burst count user level n : ℕ) (out left : List Float) (filled :
       heard_clean cell burst count user level fine.0 inside.0 inside.1 left _ (sym parts.1)
 
 -- and over both calls, by what each promises: of a row that `pairs` wrote, `hear` replies with the user whose chips they are
-pub heard_as_written : (cell burst count user level n : ℕ) (out left : List Float) (r : HearAnswer)
-    → said_pairs (wrote.Written n) leaving left ≡ pairs_outcome cell burst count user level out → said_hear r ≡ hear_answer cell burst count left
-    → Alone cell burst count user → r ≡ heard.User user (f32_of (pos (level * (code_of burst).length))) (f32_of (pos 0))
-unfolding said_pairs said_hear
+pub heard_as_written : (cell burst count user level n : ℕ) (out left : List Float) (r : Result Heard Refusal)
+    → said (Ok n) leaving left ≡ pairs_outcome cell burst count user level out → said_as heard_meant r ≡ hear_answer cell burst count left
+    → Alone cell burst count user → r ≡ Ok (heard.User user (f32_of (pos (level * (code_of burst).length))) (f32_of (pos 0)))
 heard_as_written cell burst count user level n out left r wrote_it heard-it alone =
-    said_hear_once r (heard.User user (f32_of (pos (level * (code_of burst).length))) (f32_of (pos 0))) (heard-it ∙ heard_as_filled cell burst count user level n out left (sym wrote_it) alone)
+    said_as_once heard_meant heard_meant_once r (Ok (heard.User user (f32_of (pos (level * (code_of burst).length))) (f32_of (pos 0))))
+    (heard-it ∙ heard_as_filled cell burst count user level n out left (sym wrote_it) alone)

@@ -6,39 +6,30 @@ use mathlib.Core.Bool.{true}
 use mathlib.Core.List.{List, [], ◌∷◌}
 use Prim.Native.Nat.{ℕ}
 use native.Mathlib.Omega.{arith}
-use lib.Dec.{eqb, leb}
 use lib.ListN.{length, set, get_or, length-set}
 use lib.Seq.{get_or-set_other}
-use borrow.Author.Tests.{eqb-true, eqb-false}
-use Rattle.laws.specs.Lists.{every}
-use Rattle.laws.proofs.Bools.{and_true}
-use Rattle.laws.proofs.Lists.{by_cases}
 use Rattle.refusals.specs.Refusals.{after}
-use Rattle.refusals.proofs.First.{after_refused, after_answered}
 use Rattle.seats.specs.declared.Seat.{Seat}
-use Rattle.seats.specs.Seats.{closed, held, bookings, insert, without, seat_ok}
+use Rattle.seats.specs.Seats.{closed, held, bookings, insert, without}
 use Rattle.seats.proofs.Sound.{sound}
 use Rattle.plans.proofs.Plans.{plan_length, with_plan_row}
-use Rattle.plans.proofs.Kept.{insert-length, closed_ok}
+use Rattle.plans.proofs.Kept.{insert-length}
 use Rattle.plans.proofs.Cancelled.{without_length}
 use Rattle.classbook.specs.declared.Book.{Book}
-use Rattle.classbook.specs.Book.{empty_book, seat_of, with_seat, plan_of, common, book_ok}
+use Rattle.classbook.specs.Book.{empty_book, seat_of, with_seat, plan_of, book_ok}
 use Rattle.classbook.specs.Calls.{open_seat, as_booking, book_answer}
-use Rattle.classbook.proofs.Passed.{book_passed}
+use Rattle.classbook.proofs.Passed.{named_seat_good, book_passed}
 use Rattle.classbook.proofs.Valid.{Sized, empty_ok, open_kept, book_kept, cancel_kept, close_kept}
 use Rattle.demand.specs.Lesson.{Call, opens, books, cancels, closes, lists, glances, Turn, reply, number_of, next, run_through}
 use Rattle.demand.specs.Demand.{holds}
-use Rattle.demand.proofs.Seats.{replicate_at, set_shows, every_place}
-use Rattle.demand.proofs.Own.{made, next_own}
+use Rattle.demand.proofs.Seats.{replicate_at, set_shows}
+use Rattle.demand.proofs.Own.{after_either, made, next_own}
 
 -- ---- a turn touches no seat but the caller's
 exchange_apart : (n : ℕ) (b : Book) (i : ℕ) (s : Seat) (j : ℕ) → (j ≡ i → ⊥) → seat_of (after n b (with_seat b i s)) j ≡ seat_of b j
 unfolding seat_of with_seat
 exchange_apart n b i s j apart =
-    ⊎_elim
-    (λ t. ap (λ (c : Book). get_or c.seats j closed) (after_answered n b (with_seat b i s) (eqb-true n 0 t)) ∙ get_or-set_other b.seats i j s closed apart)
-    (λ f. ap (λ (c : Book). get_or c.seats j closed) (after_refused n b (with_seat b i s) (eqb-false n 0 f)))
-    (by_cases (eqb n 0))
+    after_either (λ (c : Book). seat_of c j ≡ seat_of b j) n b (with_seat b i s) (λ z. get_or-set_other b.seats i j s closed apart) refl
 
 pub next_apart : (b : Book) (i : ℕ) (c : Call) (j : ℕ) → (j ≡ i → ⊥) → seat_of (next b i c) j ≡ seat_of b j
 next_apart b i c j apart = ap (λ (d : Book). seat_of d j) (next_own b i c) ∙ exchange_apart (number_of (reply b i c)) b i (made (seat_of b i) c) j apart
@@ -56,20 +47,12 @@ empty_good = record { ok = empty_ok; sixteen = refl; wide = λ i. ap (λ (s : Se
 -- the sizes stay where the seat that is put in has forty places
 exchange_sixteen : (n : ℕ) (b : Book) (i : ℕ) (s : Seat) → length b.seats ≡ 16 → length (after n b (with_seat b i s)).seats ≡ 16
 unfolding with_seat
-exchange_sixteen n b i s h =
-    ⊎_elim
-    (λ t. ap (λ (c : Book). length c.seats) (after_answered n b (with_seat b i s) (eqb-true n 0 t)) ∙ length-set b.seats i s ∙ h)
-    (λ f. ap (λ (c : Book). length c.seats) (after_refused n b (with_seat b i s) (eqb-false n 0 f)) ∙ h)
-    (by_cases (eqb n 0))
+exchange_sixteen n b i s h = after_either (λ (c : Book). length c.seats ≡ 16) n b (with_seat b i s) (λ z. length-set b.seats i s ∙ h) h
 
 exchange_wide : (n : ℕ) (b : Book) (i : ℕ) (s : Seat) → ((j : ℕ) → length (seat_of b j).row ≡ 40) → (n ≡ 0 → length s.row ≡ 40)
     → (j : ℕ) → length (seat_of (after n b (with_seat b i s)) j).row ≡ 40
 unfolding seat_of with_seat
-exchange_wide n b i s h new j =
-    ⊎_elim
-    (λ t. ap (λ (c : Book). length (get_or c.seats j closed).row) (after_answered n b (with_seat b i s) (eqb-true n 0 t)) ∙ shown (new (eqb-true n 0 t)))
-    (λ f. ap (λ (c : Book). length (get_or c.seats j closed).row) (after_refused n b (with_seat b i s) (eqb-false n 0 f)) ∙ h j)
-    (by_cases (eqb n 0))
+exchange_wide n b i s h new j = after_either (λ (c : Book). length (seat_of c j).row ≡ 40) n b (with_seat b i s) (λ z. shown (new z)) (h j)
   where
     shown : length s.row ≡ 40 → length (get_or (set b.seats i s) j closed).row ≡ 40
     shown w =
@@ -130,7 +113,4 @@ module _ (b : Book) (g : Good b) (i : ℕ) where
   holds_held = plan_length (seat_of b i) (g.wide i)
 
   pub holds_count : (seat_of b i).count ≡ holds b i
-  unfolding book_ok seat_of
-  holds_count =
-      let good = every_place seat_ok b.seats i closed closed_ok (and_true (every seat_ok b.seats) (leb (common b) 80) g.ok).0 in
-      omega (arith, holds_held, (sound (get_or b.seats i closed) good).few)
+  holds_count = omega (arith, holds_held, (sound (seat_of b i) (named_seat_good b i g.ok)).few)

@@ -10,10 +10,9 @@ use Rattle.refusals.specs.Refusals.{first_of}
 use Rattle.seats.specs.declared.Seat.{Seat}
 use Rattle.seats.specs.Seats.{held}
 use Rattle.classbook.specs.declared.Book.{Book}
-use Rattle.classbook.specs.declared.ListAnswer.{ListAnswer}
 use Rattle.classbook.specs.Book.{empty_book, seat_of, plan_of, common}
 use Rattle.classbook.specs.Conditions.{bad_seat, not_open}
-use Rattle.classbook.specs.Calls.{seat_refusals, list_with, list_answer}
+use Rattle.classbook.specs.Calls.{ListAnswer, seat_refusals, list_with, list_answer}
 use Rattle.classbook.proofs.Valid.{room_high}
 use Rattle.demand.specs.Lesson.{Turn, turns}
 use Rattle.demand.specs.Demand.{book_after, left, AtMostForty, AtMostEighty, TensAreSafe, AsIfAlone, Demand3}

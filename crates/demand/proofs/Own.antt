@@ -1,6 +1,6 @@
 -- A call as its caller's own seat decides it: its refusals, its reply and the seat that it makes depend on the rest of the book in two truth values only,
 -- whether the book breaks its conditions and whether the common room is used up. Cited by the other files here. Assumes nothing.
-use mathlib.Core.Path.{◌≡◌, refl, sym, ap, ◌∙◌}
+use mathlib.Core.Path.{◌≡◌, refl, sym, ap, subst, ◌∙◌}
 use mathlib.Core.Logic.{⊎_elim}
 use mathlib.Core.Bool.{Bool, not}
 use mathlib.Core.List.{List, [], ◌∷◌, ◌++◌}
@@ -111,17 +111,21 @@ made s closes = closed
 made s (lists lent) = s
 made s (glances timeslot) = s
 
+-- what holds of the book before, and where the call is not refused of the one that it makes, holds of the book afterwards
+pub after_either : (P : Book → Type 0) (n : ℕ) (before made : Book) → (n ≡ 0 → P made) → P before → P (after n before made)
+after_either P n before made given kept =
+    ⊎_elim
+    (λ t. subst P (sym (after_answered n before made (eqb-true n 0 t))) (given (eqb-true n 0 t)))
+    (λ f. subst P (sym (after_refused n before made (eqb-false n 0 f))) kept)
+    (by_cases (eqb n 0))
+
 -- a seat put where it stands
 in_place : (b : Book) (i : ℕ) → with_seat b i (seat_of b i) ≡ b
 unfolding with_seat seat_of
 in_place b i = ap (λ l. record { seats = l }) (set-get_or b.seats i closed)
 
 unmoved : (n : ℕ) (b : Book) (i : ℕ) → b ≡ after n b (with_seat b i (seat_of b i))
-unmoved n b i =
-    ⊎_elim
-    (λ t. sym (after_answered n b (with_seat b i (seat_of b i)) (eqb-true n 0 t) ∙ in_place b i))
-    (λ f. sym (after_refused n b (with_seat b i (seat_of b i)) (eqb-false n 0 f)))
-    (by_cases (eqb n 0))
+unmoved n b i = after_either (λ (c : Book). b ≡ c) n b (with_seat b i (seat_of b i)) (λ z. sym (in_place b i)) refl
 
 -- a call leaves the book as it is, or with the caller's seat exchanged
 pub next_own : (b : Book) (i : ℕ) (c : Call) → next b i c ≡ after (number_of (reply b i c)) b (with_seat b i (made (seat_of b i) c))

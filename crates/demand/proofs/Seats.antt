@@ -1,4 +1,4 @@
--- Plain facts on a row of seats, whatever the place: also where there is none. Cited by Books, Alone and Demand3.
+-- Plain facts on a row of seats, whatever the place: also where there is none. Cited by Books, Alone and Demand3, and by the crates facts and demand_over_c.
 -- Assumes nothing.
 use mathlib.Core.Path.{◌≡◌, refl}
 use mathlib.Core.Logic.{◌⊎◌, inl, inr}

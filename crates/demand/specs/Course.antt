@@ -4,7 +4,7 @@ use Rattle.std.specs.Prelude.{◌≡◌, List, [], ◌∷◌, ◌++◌, map, ℕ
 use Rattle.refusals.specs.Refusals.{◌leaving◌, answer}
 use Rattle.bookings.specs.declared.Booking.{Booking}
 use Rattle.classbook.specs.declared.Book.{Book}
-use Rattle.classbook.specs.declared.ListAnswer.{ListAnswer}
+use Rattle.classbook.specs.Calls.{ListAnswer}
 use Rattle.demand.specs.Lesson.{Call, Reply, listed, reply, next, Line}
 
 -- the lesson says of a call what its caller got: this reply, and this book afterwards

@@ -11,7 +11,6 @@ use Rattle.laws.specs.Lists.{every}
 use Rattle.laws.proofs.Bools.{true_false}
 use Rattle.laws.proofs.Cases.{by_cases}
 use Rattle.laws.proofs.Lists.{hd, tl}
-use Rattle.refusals.proofs.First.{after_refused, after_answered}
 use Rattle.seats.specs.declared.Seat.{Seat}
 use Rattle.seats.specs.Seats.{closed, with_plan}
 use Rattle.classbook.specs.declared.Book.{Book}
@@ -21,7 +20,7 @@ use Rattle.classbook.proofs.Passed.{open_passed}
 use Rattle.demand.specs.Lesson.{Call, opens, books, cancels, closes, lists, glances}
 use Rattle.demand.specs.Lesson.{Turn, reply, number_of, next, run_through}
 use Rattle.demand.proofs.Seats.{set_shows}
-use Rattle.demand.proofs.Own.{made, next_own}
+use Rattle.demand.proofs.Own.{after_either, made, next_own}
 use Rattle.demand.proofs.Books.{next_apart}
 use Rattle.facts.specs.KeptCounts.{is_close, closes_it, SameCounts}
 
@@ -48,14 +47,13 @@ own_counts b i c live open-still =
     let s = made (seat_of b i) c in
     let same = unchanged (seat_of b i) live in
     rw (next_own b i c)
-    (⊎_elim
-    (λ t. rw (after_answered n b (with_seat b i s) (eqb-true n 0 t))
-    (⊎_elim
-    (λ e. rw e (made_counts b i c live open-still (eqb-true n 0 t)))
+    (after_either (λ (d : Book). SameCounts (seat_of b i) (seat_of d i)) n b (with_seat b i s)
+    (λ z.
+    ⊎_elim
+    (λ e. rw e (made_counts b i c live open-still z))
     (λ e. rw e same)
-    (set_shows b.seats i i s closed)))
-    (λ f. rw (after_refused n b (with_seat b i s) (eqb-false n 0 f)) same)
-    (by_cases (eqb n 0)))
+    (set_shows b.seats i i s closed))
+    same)
 
 -- one turn, of whomever
 pub turn_counts : (b : Book) (i : ℕ) (t : Turn) → (seat_of b i).live ≡ true → closes_it i t ≡ false

@@ -13,9 +13,9 @@ use Rattle.laws.proofs.Bools.{or_false}
 use Rattle.laws.proofs.Cases.{by_cases}
 use Rattle.seats.specs.declared.Seat.{Seat}
 use Rattle.classbook.specs.declared.Book.{Book}
-use Rattle.classbook.specs.declared.BookAnswer.{BookAnswer}
 use Rattle.classbook.specs.Book.{empty_book, seat_of}
-use Rattle.classbook.specs.Calls.{long_count, short_count, open_refusals, open_seat, open_answer}
+use Rattle.classbook.specs.Calls.{BookAnswer, long_count, short_count}
+use Rattle.classbook.specs.Calls.{open_refusals, open_seat, open_answer}
 use Rattle.classbook.proofs.Meaning.{opened_seat}
 use Rattle.classbook.proofs.Valid.{Sized}
 use Rattle.demand.specs.Lesson.{Call, opens, books, cancels, closes, lists, glances}

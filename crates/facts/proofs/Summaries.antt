@@ -11,6 +11,7 @@ use native.Mathlib.Nat.{not-suc-le-zero, le_of_suc-le-suc}
 use native.Mathlib.Omega.{arith}
 use lib.Dec.{leb}
 use lib.ListN.{length, get_or}
+use Rattle.std.specs.Prelude.{Some}
 use borrow.Author.Tests.{leb-true, eqb-true, eq-eqb, not-true}
 use Rattle.laws.specs.Lists.{every, some, pairs, matches}
 use Rattle.laws.proofs.Bools.{true_false, and_true}
@@ -19,47 +20,36 @@ use Rattle.laws.proofs.Lists.{hd, tl, every_at}
 use Rattle.laws.proofs.Matches.{matches_self}
 use Rattle.laws.proofs.Some.{some_alike}
 use Rattle.refusals.specs.Refusals.{Refusals, first_of, answer}
+use Rattle.conditions.specs.declared.Direction.TheVariants.{Up, Down}
 use Rattle.conditions.specs.Conditions.{is_down, bad_timeslot, bad_code}
 use Rattle.tables.specs.Tables.{form_refusals, settings_refusals}
 use Rattle.bookings.specs.declared.Booking.{Booking}
 use Rattle.bookings.specs.Bookings.{clash}
 use Rattle.bookings.proofs.Clash.{clash_turn, beside}
-use Rattle.slots.specs.declared.Way.TheVariants.{Up, Down}
 use Rattle.slots.specs.declared.Slot.{Slot}
 use Rattle.slots.specs.Slots.{is_in, way_in, same_slot, slot_of, summary_of}
 use Rattle.slots.proofs.ByMasks.{no_clash}
 use Rattle.slots.proofs.Summary.{same_self}
-use Rattle.seats.specs.declared.Seat.{Seat}
-use Rattle.seats.specs.Seats.{closed, bookings, summary_agrees, seat_ok}
+use Rattle.seats.specs.Seats.{bookings, summary_agrees}
 use Rattle.seats.proofs.Sound.{sound, none_clash}
-use Rattle.plans.proofs.Kept.{closed_ok}
 use Rattle.classbook.specs.declared.Book.{Book}
 use Rattle.classbook.specs.declared.Request.{Request}
-use Rattle.classbook.specs.Book.{Plan, plan_of, seat_of, common, book_ok}
+use Rattle.classbook.specs.Book.{Plan, plan_of, seat_of, book_ok}
 use Rattle.classbook.specs.Conditions.{bad_book, bad_seat, not_open}
 use Rattle.classbook.specs.Calls.{open_refusals, open_answer, request_refusals, book_refusals}
 use Rattle.classbook.specs.Calls.{booking_refusals, book_answer, cancel_refusals, cancel_answer}
 use Rattle.classbook.specs.Calls.{seat_refusals, close_answer}
+use Rattle.classbook.proofs.Passed.{named_seat_good}
 use Rattle.classbook.proofs.Valid.{Sized, open_kept, book_kept, cancel_kept, close_kept}
 use Rattle.listing.specs.Listing.{list_refusals}
 use Rattle.summaries.specs.Summaries.{summary_refusals, glance_of, summary_answer}
 
 -- ---- "It must equal what the bookings themselves say after open, book, cancel and close"
 
-good_anywhere : (l : List Seat) (i : ℕ) → every seat_ok l ≡ true → seat_ok (get_or l i closed) ≡ true
-good_anywhere [] i e = closed_ok
-good_anywhere (s ∷ l) zero e = hd seat_ok s l e
-good_anywhere (s ∷ l) (suc i) e = good_anywhere l i (tl seat_ok s l e)
-
-seat_anywhere : (b : Book) → book_ok b ≡ true → (i : ℕ) → seat_ok (seat_of b i) ≡ true
-unfolding book_ok seat_of
-seat_anywhere b ok i =
-    good_anywhere b.seats i (and_true (every seat_ok b.seats) (leb (common b) 80) ok).0
-
 -- in a book that meets its conditions, of every seat
 pub kept_agrees : (b : Book) → book_ok b ≡ true → (i : ℕ)
     → (seat_of b i).slots ≡ summary_of (bookings (seat_of b i))
-kept_agrees b ok i = (sound (seat_of b i) (seat_anywhere b ok i)).agrees
+kept_agrees b ok i = (sound (seat_of b i) (named_seat_good b i ok)).agrees
 
 -- and so after each call, refused or not
 module _ (b : Book) (sized : Sized b) (ok : book_ok b ≡ true) (i : ℕ) where
@@ -210,17 +200,17 @@ module _ (t : ℕ) where
       simp (alike x y e apart, none_differs l p d low o.1 e)
 
   told : (l : List Booking) (p : ℕ) (d : Booking) → p < length l → pairs no_clash l ≡ true
-      → is_in t (get_or l p d) ≡ true → way_in t l ≡ cond (goes (get_or l p d)) Down Up
+      → is_in t (get_or l p d) ≡ true → way_in t l ≡ cond (goes (get_or l p d)) (Some Down) (Some Up)
   unfolding way_in
   told l p d h free e = ⊎_elim down up (by_cases (goes (get_or l p d)))
     where
       there : some (is_in t) l ≡ true
       there = some_at (is_in t) l p d h e
 
-      down : goes (get_or l p d) ≡ true → way_in t l ≡ cond (goes (get_or l p d)) Down Up
+      down : goes (get_or l p d) ≡ true → way_in t l ≡ cond (goes (get_or l p d)) (Some Down) (Some Up)
       down g = simp (some_at (λ y. is_in t y && goes y) l p d h (rw e g), g)
 
-      up : goes (get_or l p d) ≡ false → way_in t l ≡ cond (goes (get_or l p d)) Down Up
+      up : goes (get_or l p d) ≡ false → way_in t l ≡ cond (goes (get_or l p d)) (Some Down) (Some Up)
       up g =
           let none : some (λ y. is_in t y && goes y) l ≡ false =
           some_alike (λ y. is_in t y && goes y) (other (goes (get_or l p d))) l
@@ -232,7 +222,7 @@ module _ (t : ℕ) where
 pub direction_told : (b : Book) → book_ok b ≡ true → (i t p : ℕ) (d : Booking)
     → p < length (bookings (seat_of b i)) → (get_or (bookings (seat_of b i)) p d).timeslot ≡ t
     → (slot_of t (bookings (seat_of b i))).way
-    ≡ cond (is_down (get_or (bookings (seat_of b i)) p d).direction) Down Up
+    ≡ cond (is_down (get_or (bookings (seat_of b i)) p d).direction) (Some Down) (Some Up)
 unfolding slot_of
 direction_told b ok i t p d h e =
-    told t (bookings (seat_of b i)) p d h (none_clash (seat_of b i) (seat_anywhere b ok i)) (eq-eqb _ t e)
+    told t (bookings (seat_of b i)) p d h (none_clash (seat_of b i) (named_seat_good b i ok)) (eq-eqb _ t e)

@@ -6,10 +6,9 @@ use Rattle.refusals.specs.Refusals.{first_of}
 use Rattle.tables.specs.Tables.{settings_refusals}
 use Rattle.seats.specs.Seats.{opened}
 use Rattle.classbook.specs.declared.Book.{Book}
-use Rattle.classbook.specs.declared.BookAnswer.{BookAnswer}
 use Rattle.classbook.specs.Book.{with_seat}
 use Rattle.classbook.specs.Conditions.{bad_book, bad_seat, is_open}
-use Rattle.classbook.specs.Calls.{with_book}
+use Rattle.classbook.specs.Calls.{BookAnswer, with_book}
 use Rattle.demand.specs.Lesson.{Call, opens, books, cancels, closes, lists, glances}
 use Rattle.demand.specs.Lesson.{Turn, Reply, number, reply, next, Line, log}
 

@@ -5,7 +5,7 @@ use Rattle.std.specs.Prelude.{◌≡◌, Bool, true, false, not, ◌&&◌, ◌||
 use Rattle.laws.specs.Lists.{chain, every}
 use Rattle.refusals.specs.Refusals.{Answer, refused, answered, Outcome, ◌leaving◌, Refusals, answer}
 use Rattle.classbook.specs.declared.Book.{Book}
-use Rattle.classbook.specs.declared.BookAnswer.{BookAnswer}
+use Rattle.classbook.specs.Calls.{BookAnswer}
 
 -- the numbers of a table, row by row as they are read
 unfoldable pub numbers_of : Refusals → List ℕ

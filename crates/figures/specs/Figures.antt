@@ -10,9 +10,8 @@ use Rattle.paging.specs.Calls.{indicator_answer}
 use Rattle.beacons.specs.Calls.{beacon_answer}
 use Rattle.seats.specs.Seats.{blank}
 use Rattle.classbook.specs.declared.Request.{Request}
-use Rattle.classbook.specs.declared.BookAnswer.{BookAnswer}
 use Rattle.classbook.specs.Book.{empty_book}
-use Rattle.classbook.specs.Calls.{open_answer, book_answer}
+use Rattle.classbook.specs.Calls.{BookAnswer, open_answer, book_answer}
 use Rattle.listing.specs.Listing.{list_outcome}
 use Rattle.figures.specs.Shown.{shown, whether, refusal, given, is_answered, reply, number, all_of, from, starts, data_bits, data2_bits, first_and_last, framed, in_frame, listed}
 

@@ -1,7 +1,7 @@
 -- What is known once a paging call has answered: none of its refusals held, and what it made. And
 -- when `indicator` and `owner` do answer. Cited by the theorems over the calls' answers.
 -- Assumes nothing.
-use mathlib.Core.Path.{◌≡◌, refl, sym, ◌∙◌}
+use mathlib.Core.Path.{◌≡◌, sym, ◌∙◌}
 use mathlib.Core.Bool.{false, ◌||◌}
 use mathlib.Core.List.{List, [], ◌∷◌, ◌++◌}
 use Prim.Native.Nat.{ℕ, ◌*◌, ◌<◌, ◌≤◌}
@@ -18,8 +18,7 @@ use Rattle.paging_bits.specs.Inside.{Fits, Holds}
 use Rattle.paging.specs.Paging.{half_of, Place, place_of, Owner, owner_at}
 use Rattle.paging.specs.Calls.{indicator_refusals, indicator_answer, owner_refusals, owner_answer}
 use Rattle.paging.specs.Calls.{frame_refusals, frame_outcome}
-use Rattle.paging.proofs.Passed.{pich_numbered}
-use Rattle.paging.proofs.Lent.{lent_passed}
+use Rattle.paging.proofs.Passed.{pich_numbered, lent_passed}
 use Rattle.paging_back.specs.Back.{number_of, bits_of}
 
 module _ (burst L : ℕ) where
@@ -84,8 +83,7 @@ module _ (burst L need : ℕ) (given : List ℕ) (room : ℕ) (made out : List �
       let told = leaving_given m room n out (made ++ drop room out) left e in
       let z = told.0 in
       let passed =
-      lent_passed burst L given out (λ _ _. need) (λ _ _. room) (half_of burst) (number_of burst L) m
-      refl refl refl z in
+      lent_passed burst L need given room out z in
       record {
         none = append_front (pich_refusals burst L) _ (pich_numbered burst L) z;
         fit = passed.0;

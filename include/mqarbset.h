@@ -426,7 +426,7 @@ static inline uint32_t mq_taken(mq_book *book, const mq_book_answer *answer)
  *   long_count   midambles of types 1 and 3: 4, 8, 16, or 0 for 8
  *   short_count  midambles of type 2: 3, 6, or 0 for 3
  * Users above 8 (type 2: above 3) need 16 and 6 outright; before version 0.8.0 a count of 0 stood for these.
- * Refusals: 1, 3, 9, 12, 13, 15. Stack: 72 KB. */
+ * Refusals: 1, 3, 9, 12, 13, 15. Stack: 77 KB. */
 MQ_MUST_USE static inline uint32_t mq_open(mq_book *book, uint32_t seat, uint32_t cell, uint32_t sync, uint32_t k, uint32_t long_count, uint32_t short_count)
 {
     mq_book_answer answer = mq_open_value(mq_held(book), seat, cell, sync, k, long_count, short_count);
@@ -453,14 +453,14 @@ MQ_MUST_USE static inline uint32_t mq_book_code(mq_book *book, uint32_t seat, ui
 }
 
 /* Cancels the booking of a seat that is named by timeslot and code; the numbers as for mq_book_code.
- * Refusals: 5, 6, 12, 13, 14, 21. Stack: 79 KB. */
+ * Refusals: 5, 6, 12, 13, 14, 21. Stack: 77 KB. */
 MQ_MUST_USE static inline uint32_t mq_cancel(mq_book *book, uint32_t seat, uint32_t timeslot, uint32_t factor, uint32_t index)
 {
     mq_book_answer answer = mq_cancel_value(mq_held(book), seat, timeslot, factor, index);
     return mq_taken(book, &answer);
 }
 
-/* Closes a seat: its bookings and its settings go. Refusals: 12, 13, 14. Stack: 65 KB. */
+/* Closes a seat: its bookings and its settings go. Refusals: 12, 13, 14. Stack: 77 KB. */
 MQ_MUST_USE static inline uint32_t mq_close(mq_book *book, uint32_t seat)
 {
     mq_book_answer answer = mq_close_value(mq_held(book), seat);

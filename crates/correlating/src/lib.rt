@@ -9,14 +9,12 @@ fn sixteen(re: &[f32], im: &[f32], signs: &[f32], out: &mut [f32])
     requires in_bounds { (512 ≤ length re.now) × (512 ≤ length im.now) × (reach 1 ≤ length signs.now) × (32 ≤ length out.old) }
     requires samples { Samples re.now 512 × Samples im.now 512 × Signs signs.now (reach 1) }
 {
-    let mut user: u32 = 0;
-    while user < 16 {
+    for user in 0..16 {
         let by = codes::shift(1, user + 1) as usize;
         let s = correlation::user_sums(re, im, signs, by, 512);
         let place = 2 * user as usize;
         out[place] = s.re;
         out[place + 1] = s.im;
-        user += 1;
     }
 }
 
@@ -40,11 +38,9 @@ pub extern "C" fn correlating_sums(cell: u32, row: &[f32], times: u32, out: &mut
     correlation::fill_signs(cell, 1, &mut signs);
     let mut re = [0.0f32; 512];
     let mut im = [0.0f32; 512];
-    let mut t: u32 = 0;
-    while t < times {
+    for _ in 0..times {
         correlation::turn(row, 512, &mut re, &mut im);
         sixteen(&re, &im, &signs, out);
-        t += 1;
     }
     times
 }

@@ -13,7 +13,7 @@ use Rattle.laws.specs.Lists.{one, every}
 use Rattle.laws.proofs.Bools.{and_true}
 use Rattle.laws.proofs.Lists.{by_cases, both, hd, tl}
 use Rattle.conditions.specs.declared.Direction.TheVariants.{Up, Down}
-use Rattle.slots.specs.declared.Way.TheVariants as way
+use Rattle.std.specs.Prelude.{Some, None}
 use Rattle.mqarbset_book.specs.declared.MqBooking.{MqBooking}
 use Rattle.mqarbset_book.specs.declared.MqSlot.{MqSlot}
 use Rattle.mqarbset_book.specs.declared.MqSeat.{MqSeat}
@@ -65,7 +65,7 @@ booking_back x p = simp (direction_back x.direction p)
 
 -- a byte that is 0, 1 or 2; up and down say whether it is 1 and whether it is 2
 way_by : (w : ℕ) (up down : Bool) → eqb w 1 ≡ up → eqb w 2 ≡ down → not (ltb 2 w) ≡ true
-    → write_way (cond up way.Up (cond down way.Down way.Neither)) ≡ w
+    → write_way (cond up (Some Up) (cond down (Some Down) None)) ≡ w
 unfolding write_way
 way_by w true down e f p = sym (eqb-true w 1 e)
 way_by w false true e f p = sym (eqb-true w 2 f)

@@ -6,6 +6,7 @@ ghost use Rattle.std.specs.Prelude.{◌≤◌};
 use bookings::Booking;
 use classbook::{Book, Request};
 use conditions::Direction;
+use refusals::Refusal;
 use slots::Slot;
 
 // Which seat booking number j goes to: ten to each of sixteen seats, then one after another to eight of them.
@@ -21,14 +22,12 @@ fn turn_of(j: u32) -> u32 {
 // The request for it: up, type 1, factor 16, two codes in each of the timeslots 1 to 14, not asked for in list order.
 fn request_of(j: u32, user: u32) -> Request {
     let p = turn_of(j);
-    let index = (p / 14) % 16;
-    let place = p % 14;
     Request {
-        timeslot: 1 + place * 5 % 14,
+        timeslot: 1 + p % 14 * 5 % 14,
         direction: Direction::Up,
         burst: 1,
         factor: 16,
-        index: 1 + index,
+        index: 1 + p / 14 % 16,
         user,
         tfci: 0,
         tpc: 0,
@@ -51,14 +50,17 @@ fn opened_book(kinds: u32) -> Book
     requires { 1 ≤ kinds }
 {
     let mut b = classbook::empty_book();
-    let mut i: u32 = 0;
-    while i < 16 {
+    for i in 0..16 {
         let j = i % kinds;
-        let long = long_count(j);
-        let short = short_count(j);
-        let a = classbook::open_seat(b, i, i, 1 + j % 2, j % 8, long, short);
-        b = a.book;
-        i += 1;
+        let _ = classbook::open_seat(
+            &mut b,
+            i,
+            i,
+            1 + j % 2,
+            j % 8,
+            long_count(j),
+            short_count(j),
+        );
     }
     b
 }
@@ -66,19 +68,22 @@ fn opened_book(kinds: u32) -> Book
 // The first n bookings in it.
 fn booked(n: u32) -> Book {
     let mut b = opened_book(1);
-    let mut j: u32 = 0;
-    while j < n {
-        let seat = seat_of(j);
-        let x = request_of(j, 1);
-        let a = classbook::book_code(b, seat, x);
-        b = a.book;
-        j += 1;
+    for j in 0..n {
+        let _ = classbook::book_code(&mut b, seat_of(j), request_of(j, 1));
     }
     b
 }
 
-// A book with so many bookings; then so many times one booking more, each time into that same book: the answer's book is taken over, and its seat put
-// back. The sum of the refusals and of what the seat then holds.
+// The refusal's number, or 0.
+fn number_in(r: Result<(), Refusal>) -> u32 {
+    match r {
+        Ok(()) => 0,
+        Err(refusal) => refusal.number(),
+    }
+}
+
+// A book with so many bookings; then so many times one booking more, each time into that same book: its seat is put back. The sum of the refusals and of what the seat
+// then holds.
 #[unsafe(no_mangle)]
 pub extern "C" fn growth_book(bookings: u32, times: u32) -> u32 {
     let mut b = booked(bookings);
@@ -86,17 +91,12 @@ pub extern "C" fn growth_book(bookings: u32, times: u32) -> u32 {
     let i = (seat % 16) as usize;
     let s = b.seats[i];
     let mut sum: u32 = 0;
-    let mut t: u32 = 0;
-    while t < times {
-        let x = request_of(bookings, 1 + t % 16);
-        let a = classbook::book_code(b, seat, x);
-        b = a.book;
-        let r = b.seats[i];
-        let more = r.count as u32;
-        sum = std::num::wrapping_add_u32(sum, a.refusal);
-        sum = std::num::wrapping_add_u32(sum, more);
+    for t in 0..times {
+        let r = classbook::book_code(&mut b, seat, request_of(bookings, 1 + t % 16));
+        sum = sum
+            .wrapping_add(number_in(r))
+            .wrapping_add(b.seats[i].count as u32);
         b.seats[i] = s;
-        t += 1;
     }
     sum
 }
@@ -108,9 +108,10 @@ fn next(x: u32) -> u32 {
 
 fn thrown_direction(x: u32) -> Direction {
     if x % 3 == 0 {
-        return Direction::Down;
+        Direction::Down
+    } else {
+        Direction::Up
     }
-    Direction::Up
 }
 
 fn thrown_factor(x: u32) -> u32 {
@@ -131,13 +132,11 @@ fn thrown(x: u32) -> Request {
     let a = next(x);
     let b = next(a);
     let c = next(b);
-    let direction = thrown_direction(b / 16);
-    let factor = thrown_factor(c / 16);
     Request {
         timeslot: a / 64 % 16,
-        direction,
+        direction: thrown_direction(b / 16),
         burst: 1 + b / 256 % 17 / 14 + b / 256 % 17 / 16,
-        factor,
+        factor: thrown_factor(c / 16),
         index: 1 + c / 256 % 16,
         user: 1 + a / 1024 % 17,
         tfci: b / 2048 % 20 / 18 * 4,
@@ -146,48 +145,35 @@ fn thrown(x: u32) -> Request {
 }
 
 // A number that tells rows apart: the bookings of one, thrown together with what came before.
-fn row_sum(row: [Booking; 40], before: u32) -> u32 {
+fn row_sum(row: &[Booking], before: u32) -> u32 {
     let mut sum = before;
-    let mut m: usize = 0;
-    while m < 40 {
-        let y = row[m];
+    for y in row {
         sum = next(sum ^ y.timeslot as u32);
         sum = next(sum ^ y.index as u32);
         sum = next(sum ^ y.user as u32);
-        m += 1;
     }
     sum
 }
 
 // And one that tells summaries apart.
-fn slots_sum(row: [Slot; 15], before: u32) -> u32 {
+fn slots_sum(row: &[Slot], before: u32) -> u32 {
     let mut sum = before;
-    let mut t: usize = 0;
-    while t < 15 {
-        let y = row[t];
-        let w = y.way;
-        let way = slots::way_number(w);
+    for y in row {
         sum = next(sum ^ y.leaves as u32);
-        sum = next(sum ^ way as u32);
+        sum = next(sum ^ slots::way_number(y.way) as u32);
         sum = next(sum ^ y.count as u32);
         sum = next(sum ^ y.second as u32);
-        t += 1;
     }
     sum
 }
 
 // And one that tells books apart.
-fn book_sum(b: Book, before: u32) -> u32 {
+fn book_sum(b: &Book, before: u32) -> u32 {
     let mut sum = before;
-    let mut n: usize = 0;
-    while n < 16 {
-        let s = b.seats[n];
-        let row = s.row;
+    for s in &b.seats {
         sum = next(sum ^ s.count as u32);
-        sum = row_sum(row, sum);
-        let kept = s.slots;
-        sum = slots_sum(kept, sum);
-        n += 1;
+        sum = row_sum(&s.row, sum);
+        sum = slots_sum(&s.slots, sum);
     }
     sum
 }
@@ -198,15 +184,10 @@ pub extern "C" fn growth_mixed(seed: u32, calls: u32) -> u32 {
     let mut b = opened_book(16);
     let mut sum: u32 = seed % 65536;
     let mut x: u32 = seed % 65536;
-    let mut t: u32 = 0;
-    while t < calls {
+    for _ in 0..calls {
         x = next(x);
-        let y = thrown(x);
-        let seat = x / 16 % 17;
-        let a = classbook::book_code(b, seat, y);
-        b = a.book;
-        sum = next(sum ^ a.refusal);
-        t += 1;
+        let r = classbook::book_code(&mut b, x / 16 % 17, thrown(x));
+        sum = next(sum ^ number_in(r));
     }
-    book_sum(b, sum)
+    book_sum(&b, sum)
 }

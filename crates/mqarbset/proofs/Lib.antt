@@ -1,4 +1,3 @@
-pub mod Turned
 pub mod Read
 pub mod Neither
 pub mod Unique

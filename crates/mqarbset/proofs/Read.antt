@@ -20,8 +20,9 @@ use Rattle.beacons.specs.Beacons.{beacons_of}
 use Rattle.beacons.specs.Calls.{beacon_answer}
 use Rattle.paging.specs.Paging.{place_of, Owner, reserved, owned}
 use Rattle.paging.specs.Calls.{indicator_answer, owner_answer, page_outcome, read_page_outcome}
-use Rattle.slots.specs.declared.Way.{Way}
-use Rattle.slots.specs.declared.Way.TheVariants.{Neither, Up, Down}
+use Rattle.std.specs.Prelude.{Option, None, Some}
+use Rattle.conditions.specs.declared.Direction.{Direction}
+use Rattle.conditions.specs.declared.Direction.TheVariants.{Up, Down}
 use Rattle.slots.specs.Slots.{way_number}
 use Rattle.classbook.specs.declared.Book.{Book}
 use Rattle.summaries.specs.declared.Glance.{Glance}
@@ -179,15 +180,15 @@ read_beacon case k = back beacons_as_c beacons_in_c (λ m e. simp e) _ _ (λ _. 
 
 -- ---- a summary
 
-way_back : (w : Way) → way_of (way_number w) ≡ w
+way_back : (w : Option Direction) → way_of (way_number w) ≡ w
 unfolding way_of way_number
-way_back Up = refl
-way_back Down = refl
-way_back Neither = refl
+way_back (Some Up) = refl
+way_back (Some Down) = refl
+way_back None = refl
 
 glance_back : (g : Glance) → summary_in_c (summary_as_c (answered g)) ≡ answered g
 unfolding summary_in_c summary_as_c
-glance_back g = ap (λ (w : Way). answered (record { leaves = g.leaves; way = w; count = g.count })) (way_back g.way)
+glance_back g = ap (λ (w : Option Direction). answered (record { leaves = g.leaves; way = w; count = g.count })) (way_back g.way)
 
 pub read_summary : (b : Book) (seat timeslot : ℕ) → summary_in_c (summary_as_c (summary_answer b seat timeslot)) ≡ summary_answer b seat timeslot
 unfolding summary_answer summary_in_c summary_as_c

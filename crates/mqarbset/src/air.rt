@@ -9,6 +9,5 @@ use mqarbset_answers::air::MqHear;
 pub fn mq_hear(cell: u32, burst: u32, count: u32, row: &[f32]) -> MqHear
     ensures { result ≡ heard_as_c (hear_answer cell burst count row.now) }
 {
-    let r = hearing::hear(cell, burst, count, row);
-    mqarbset_answers::air::hear_as_c(r)
+    hearing::hear(cell, burst, count, row).into()
 }

@@ -9,7 +9,7 @@ ghost use Rattle.mqarbset_book.specs.Calls.{handed_back, book_answer_over_c};
 ghost use Rattle.mqarbset_list.specs.Records.{records_outcome};
 ghost use Rattle.summaries.specs.Summaries.{summary_answer};
 
-use classbook::Request;
+use classbook::{Book, Request};
 use mqarbset_answers::MqAnswer;
 use mqarbset_answers::at_a_glance::MqSummary;
 use mqarbset_book::{MqBook, MqBookAnswer, MqBooking, MqSeat, MqSlot};
@@ -64,12 +64,13 @@ pub fn mq_open_value(
 ) -> MqBookAnswer
     ensures { result ≡ handed_back b (open_answer (read_book b) seat cell case k long short) }
 {
-    let c = mqarbset_book::read_book(b);
-    let a = classbook::open_seat(c, seat, cell, case, k, long, short);
-    mqarbset_book::handed_back(b, a)
+    let mut c = Book::from(&b);
+    let r = classbook::open_seat(&mut c, seat, cell, case, k, long, short);
+    mqarbset_book::handed_back(b, r, &c)
 }
 
 // Books a code in a timeslot for a seat; direction 0 is up, 1 is down. Refusals: 2, 4 to 8, 12 to 14, 16 to 20; 6 also for a direction that is neither.
+#[tactic(auto, using(mqarbset_book::proofs::Neither::book_over))]
 pub fn mq_book_value(
     b: MqBook,
     seat: u32,
@@ -84,47 +85,46 @@ pub fn mq_book_value(
 ) -> MqBookAnswer
     ensures { result ≡ handed_back b (book_answer_over_c (read_book b) seat timeslot direction burst factor index user tfci tpc) }
 {
-    let c = mqarbset_book::read_book(b);
-    let d = mqarbset_book::read_direction(direction);
-    let f = mqarbset_book::factor_beside(direction, factor);
+    let mut c = Book::from(&b);
     let x = Request {
         timeslot,
-        direction: d,
+        direction: mqarbset_book::read_direction(direction),
         burst,
-        factor: f,
+        factor: mqarbset_book::factor_beside(direction, factor),
         index,
         user,
         tfci,
         tpc,
     };
-    let a = classbook::book_code(c, seat, x);
-    mqarbset_book::handed_back(b, a)
+    let r = classbook::book_code(&mut c, seat, x);
+    mqarbset_book::handed_back(b, r, &c)
 }
 
 // Cancels the booking of a seat that is named by timeslot and code. Refusals: 5, 6, 12, 13, 14, 21.
 pub fn mq_cancel_value(b: MqBook, seat: u32, timeslot: u32, factor: u32, index: u32) -> MqBookAnswer
     ensures { result ≡ handed_back b (cancel_answer (read_book b) seat timeslot factor index) }
 {
-    let c = mqarbset_book::read_book(b);
-    let a = classbook::cancel_code(c, seat, timeslot, factor, index);
-    mqarbset_book::handed_back(b, a)
+    let mut c = Book::from(&b);
+    let r = classbook::cancel_code(&mut c, seat, timeslot, factor, index);
+    mqarbset_book::handed_back(b, r, &c)
 }
 
 // Closes a seat: its bookings and its settings go. Refusals: 12, 13, 14.
 pub fn mq_close_value(b: MqBook, seat: u32) -> MqBookAnswer
     ensures { result ≡ handed_back b (close_answer (read_book b) seat) }
 {
-    let c = mqarbset_book::read_book(b);
-    let a = classbook::close_seat(c, seat);
-    mqarbset_book::handed_back(b, a)
+    let mut c = Book::from(&b);
+    let r = classbook::close_seat(&mut c, seat);
+    mqarbset_book::handed_back(b, r, &c)
 }
 
 // Lists a seat's bookings in records of eight bytes: timeslot, direction, type, factor, index, user, TFCI and TPC bits. The value is how many were written; further
 // bytes stay as they are. Refusals: 11 (below 320 bytes, which are 40 records), 12, 13, 14.
+#[tactic(auto, unfolding(mqarbset_answers::specs::Answers::outcome_as_c))]
 pub fn mq_list_bytes(b: MqBook, seat: u32, out: &mut [u8]) -> MqAnswer
     ensures { (result, out.new) ≡ outcome_as_c (records_outcome (read_book b) seat out.old) }
 {
-    mqarbset_list::list(b, seat, out)
+    mqarbset_list::list(&Book::from(&b), seat, out).into()
 }
 
 // Which codes of a timeslot a seat has free: the leaves that its bookings cover, leaf l being bit 2^l, their direction (0 up, 1 down, 2 none) and their number.
@@ -132,7 +132,5 @@ pub fn mq_list_bytes(b: MqBook, seat: u32, out: &mut [u8]) -> MqAnswer
 pub fn mq_summary_value(b: MqBook, seat: u32, timeslot: u32) -> MqSummary
     ensures { result ≡ summary_as_c (summary_answer (read_book b) seat timeslot) }
 {
-    let c = mqarbset_book::read_book(b);
-    let r = summaries::summary(c, seat, timeslot);
-    mqarbset_answers::at_a_glance::summary_as_c(r)
+    summaries::summary(&Book::from(&b), seat, timeslot).into()
 }

@@ -21,24 +21,23 @@ use mqarbset_answers::MqAnswer;
 pub fn mq_midamble_chip(cell: u32, burst: u32, count: u32, user: u32, chip: u32) -> MqAnswer
     ensures { result ≡ answer_as_c (chip_answer cell burst count user chip) }
 {
-    let r = midambles::midamble_chip(cell, burst, count, user, chip);
-    mqarbset_answers::chip_as_c(r)
+    midambles::midamble_chip(cell, burst, count, user, chip).into()
 }
 
 // All chips of a user's midamble, into the first 512 (type 2: 256) bytes of `out`; further bytes stay as they are. The value is how many bytes were
 // written. Refusals: 1, 2, 3, 4, 11.
+#[tactic(auto, unfolding(mqarbset_answers::specs::Answers::outcome_as_c))]
 pub fn mq_midamble(cell: u32, burst: u32, count: u32, user: u32, out: &mut [u8]) -> MqAnswer
     ensures { (result, out.new) ≡ outcome_as_c (midamble_outcome cell burst count user out.old) }
 {
-    let r = midambles::midamble(cell, burst, count, user, out);
-    mqarbset_answers::midamble_as_c(r)
+    midambles::midamble(cell, burst, count, user, out).into()
 }
 
 // The words of a refusal number as ASCII bytes, into the first places of `out`; further bytes stay as they are. The value is how many bytes were written, 0 for a
 // number that is no refusal's. Refusal: 11.
+#[tactic(auto, unfolding(mqarbset_answers::specs::Answers::outcome_as_c))]
 pub fn mq_refusal_text(number: u32, out: &mut [u8]) -> MqAnswer
     ensures { (result, out.new) ≡ outcome_as_c (words_outcome number out.old) }
 {
-    let r = refusal_words::words(number, out);
-    mqarbset_answers::words_as_c(r)
+    refusal_words::words(number, out).into()
 }

@@ -11,12 +11,12 @@ use mqarbset_answers::pairs::MqPair;
 pub fn mq_pair(cell: u32, burst: u32, count: u32, user: u32, chip: u32, level: u32) -> MqPair
     ensures { result ≡ pair_as_c (pair_answer cell burst count user chip level) }
 {
-    let r = signal_card::pair(cell, burst, count, user, chip, level);
-    mqarbset_answers::pairs::pair_as_c(r)
+    signal_card::pair(cell, burst, count, user, chip, level).into()
 }
 
 // All chips of a user's midamble at a level, real then imaginary, into the first 1,024 (type 2: 512) floats of `out`; further floats stay as they are. The value is how
 // many floats were written. Refusals: 1, 2, 3, 4, 11, 22.
+#[tactic(auto, unfolding(mqarbset_answers::specs::Answers::outcome_as_c))]
 pub fn mq_pairs(
     cell: u32,
     burst: u32,
@@ -27,6 +27,5 @@ pub fn mq_pairs(
 ) -> MqAnswer
     ensures { (result, out.new) ≡ outcome_as_c (pairs_outcome cell burst count user level out.old) }
 {
-    let r = signal_card::pairs(cell, burst, count, user, level, out);
-    mqarbset_answers::pairs::pairs_as_c(r)
+    signal_card::pairs(cell, burst, count, user, level, out).into()
 }

@@ -1,9 +1,9 @@
 -- How a summary is written over C, and how a C caller reads it. Cited by the promise of mq_summary_value.
 -- Assumes nothing.
-use Rattle.std.specs.Prelude.{cond, ℕ, eqb}
+use Rattle.std.specs.Prelude.{cond, ℕ, eqb, Option, None, Some}
 use Rattle.refusals.specs.Refusals.{Answer, refused, answered}
-use Rattle.slots.specs.declared.Way.{Way}
-use Rattle.slots.specs.declared.Way.TheVariants.{Neither, Up, Down}
+use Rattle.conditions.specs.declared.Direction.{Direction}
+use Rattle.conditions.specs.declared.Direction.TheVariants.{Up, Down}
 use Rattle.slots.specs.Slots.{way_number}
 use Rattle.summaries.specs.declared.Glance.{Glance}
 use Rattle.mqarbset_answers.specs.declared.at_a_glance.MqSummary.{MqSummary}
@@ -15,8 +15,8 @@ summary_as_c (answered g) = record { refusal = 0; leaves = g.leaves; direction =
 
 -- ---- what a C caller reads: 0 is nobody's refusal number
 
-unfoldable pub way_of : ℕ → Way
-way_of d = cond (eqb d 0) Up (cond (eqb d 1) Down Neither)
+unfoldable pub way_of : ℕ → Option Direction
+way_of d = cond (eqb d 0) (Some Up) (cond (eqb d 1) (Some Down) None)
 
 unfoldable pub summary_in_c : MqSummary → Answer Glance
 summary_in_c r = cond (eqb r.refusal 0) (answered (record { leaves = r.leaves; way = way_of r.direction; count = r.count })) (refused r.refusal)

@@ -1,11 +1,11 @@
 // The answers about paging bits over C.
 ghost use Rattle.std.specs.Prelude.{◌≡◌};
-ghost use Rattle.paging.specs.Calls.{said_indicator, said_owner, said_page, said_read_page};
-ghost use Rattle.mqarbset_answers.specs.Answers.{answer_as_c};
+ghost use Rattle.refusals.specs.Refusals.{said_as};
+ghost use Rattle.paging.specs.Calls.{said_place, said_owner};
 ghost use Rattle.mqarbset_answers.specs.Pages.{indicator_as_c, owner_as_c};
 
-use crate::MqAnswer;
-use paging::{IndicatorAnswer, OwnerAnswer, PageAnswer, ReadPageAnswer};
+use paging::IndicatorPlace;
+use refusals::Refusal;
 
 // Where an indicator sits: its frame, its number q there, and `length` carrying bits from `first` and from `second`.
 #[repr(C)]
@@ -29,86 +29,54 @@ pub struct MqOwner {
 }
 
 // Where an indicator sits.
-pub fn indicator_as_c(a: IndicatorAnswer) -> MqIndicator
-    ensures { result ≡ indicator_as_c (said_indicator a) }
-{
-    match a {
-        IndicatorAnswer::Refused(n) => MqIndicator {
-            refusal: n,
-            frame: 0,
-            q: 0,
-            first: 0,
-            second: 0,
-            length: 0,
-        },
-        IndicatorAnswer::Placed {
-            frame,
-            q,
-            first,
-            second,
-            length,
-        } => MqIndicator {
-            refusal: 0,
-            frame,
-            q,
-            first,
-            second,
-            length,
-        },
+impl From<Result<IndicatorPlace, Refusal>> for MqIndicator {
+    ghost from_gives = { λ r y. y ≡ indicator_as_c (said_as said_place r) };
+
+    #[tactic(auto, unfolding(crate::specs::Pages::indicator_as_c))]
+    fn from(r: Result<IndicatorPlace, Refusal>) -> MqIndicator {
+        match r {
+            Ok(x) => MqIndicator {
+                refusal: 0,
+                frame: x.frame,
+                q: x.q,
+                first: x.first,
+                second: x.second,
+                length: x.length,
+            },
+            Err(refusal) => MqIndicator {
+                refusal: refusal.number(),
+                frame: 0,
+                q: 0,
+                first: 0,
+                second: 0,
+                length: 0,
+            },
+        }
     }
 }
 
 // Who owns a bit.
-pub fn owner_as_c(a: OwnerAnswer) -> MqOwner
-    ensures { result ≡ owner_as_c (said_owner a) }
-{
-    match a {
-        OwnerAnswer::Refused(n) => MqOwner {
-            refusal: n,
-            reserved: 0,
-            q: 0,
-        },
-        OwnerAnswer::Reserved => MqOwner {
-            refusal: 0,
-            reserved: 1,
-            q: 0,
-        },
-        OwnerAnswer::Owned(q) => MqOwner {
-            refusal: 0,
-            reserved: 0,
-            q,
-        },
-    }
-}
+impl From<Result<Option<u32>, Refusal>> for MqOwner {
+    ghost from_gives = { λ r y. y ≡ owner_as_c (said_as said_owner r) };
 
-// How many bits were written.
-pub fn page_as_c(a: PageAnswer) -> MqAnswer
-    ensures { result ≡ answer_as_c (said_page a) }
-{
-    match a {
-        PageAnswer::Refused(n) => MqAnswer {
-            refusal: n,
-            value: 0,
-        },
-        PageAnswer::Written(n) => MqAnswer {
-            refusal: 0,
-            value: n,
-        },
-    }
-}
-
-// How many readings were written.
-pub fn read_page_as_c(a: ReadPageAnswer) -> MqAnswer
-    ensures { result ≡ answer_as_c (said_read_page a) }
-{
-    match a {
-        ReadPageAnswer::Refused(n) => MqAnswer {
-            refusal: n,
-            value: 0,
-        },
-        ReadPageAnswer::Written(n) => MqAnswer {
-            refusal: 0,
-            value: n,
-        },
+    #[tactic(auto, unfolding(crate::specs::Pages::owner_as_c))]
+    fn from(r: Result<Option<u32>, Refusal>) -> MqOwner {
+        match r {
+            Ok(Some(q)) => MqOwner {
+                refusal: 0,
+                reserved: 0,
+                q,
+            },
+            Ok(None) => MqOwner {
+                refusal: 0,
+                reserved: 1,
+                q: 0,
+            },
+            Err(refusal) => MqOwner {
+                refusal: refusal.number(),
+                reserved: 0,
+                q: 0,
+            },
+        }
     }
 }

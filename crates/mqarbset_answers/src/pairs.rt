@@ -1,11 +1,11 @@
-// The answers about chips for the signal card over C.
+// The answer about a chip for the signal card over C.
 ghost use Rattle.std.specs.Prelude.{◌≡◌};
-ghost use Rattle.signal_card.specs.Calls.{said_pair, said_pairs};
-ghost use Rattle.mqarbset_answers.specs.Answers.{answer_as_c};
+ghost use Rattle.refusals.specs.Refusals.{said_as};
+ghost use Rattle.signal_card.specs.Calls.{parts_of};
 ghost use Rattle.mqarbset_answers.specs.Pairs.{pair_as_c};
 
-use crate::MqAnswer;
-use signal_card::{PairAnswer, PairsAnswer};
+use refusals::Refusal;
+use signal_card::ComplexChip;
 
 // One complex chip at a level: its real part and its imaginary part.
 #[repr(C)]
@@ -17,35 +17,22 @@ pub struct MqPair {
 }
 
 // A chip at a level.
-pub fn pair_as_c(a: PairAnswer) -> MqPair
-    ensures { result ≡ pair_as_c (said_pair a) }
-{
-    match a {
-        PairAnswer::Refused(n) => MqPair {
-            refusal: n,
-            re: 0.0,
-            im: 0.0,
-        },
-        PairAnswer::Pair(c) => MqPair {
-            refusal: 0,
-            re: c.re,
-            im: c.im,
-        },
-    }
-}
+impl From<Result<ComplexChip, Refusal>> for MqPair {
+    ghost from_gives = { λ r y. y ≡ pair_as_c (said_as parts_of r) };
 
-// How many floats were written.
-pub fn pairs_as_c(a: PairsAnswer) -> MqAnswer
-    ensures { result ≡ answer_as_c (said_pairs a) }
-{
-    match a {
-        PairsAnswer::Refused(n) => MqAnswer {
-            refusal: n,
-            value: 0,
-        },
-        PairsAnswer::Written(floats) => MqAnswer {
-            refusal: 0,
-            value: floats,
-        },
+    #[tactic(auto, using(crate::proofs::Zero::plain), unfolding(crate::specs::Pairs::pair_as_c))]
+    fn from(r: Result<ComplexChip, Refusal>) -> MqPair {
+        match r {
+            Ok(c) => MqPair {
+                refusal: 0,
+                re: c.re,
+                im: c.im,
+            },
+            Err(refusal) => MqPair {
+                refusal: refusal.number(),
+                re: 0.0,
+                im: 0.0,
+            },
+        }
     }
 }

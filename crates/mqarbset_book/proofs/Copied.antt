@@ -1,36 +1,50 @@
--- A loop that writes f of each element of a row xs of n places into another, out: i of them so far. Cited by the proofs of the functions that read and write rows
--- and books. Assumes nothing.
-use mathlib.Core.Path.{◌≡◌, sym, ap, ◌∙◌}
-use mathlib.Core.List.{List, [], ◌∷◌, ◌++◌, map, append-nil}
-use Prim.Native.Nat.{ℕ, suc, ◌+◌, ◌≤◌, ◌<◌}
-use native.Mathlib.Numerals.{add-one}
+-- An array made of what f gives of each element of another, and a test of each. Cited by the proofs of the functions that read and write rows and books.
+-- Assumes nothing.
+use mathlib.Core.Path.{◌≡◌, refl, sym, ap, subst, ◌∙◌}
+use mathlib.Core.Bool.{Bool, ◌&&◌}
+use mathlib.Core.Logic.{inl, inr}
+use mathlib.Core.List.{List, [], ◌∷◌, map}
+use Prim.Native.Nat.{ℕ, zero, suc, ◌+◌, ◌≤◌, ◌<◌}
 use native.Mathlib.Omega.{arith}
-use lib.ListN.{length, take, drop, set, get_or, length-set, drop_of_length-le}
-use lib.Seq.{drop-cons, take-suc-set, take_all, append_snoc}
+use lib.ListN.{length, get_or}
+use denote.Param.Members.{Mut}
+use Rattle.std.proofs.lemmas.Bool.{cases_eq}
+use Rattle.std.specs.Array.{IsFromFnResult, IsFromFnResultFrom}
+use Rattle.std.specs.Fn.{Called}
+use Rattle.std.specs.List.{list_all}
+use Rattle.laws.specs.Lists.{every}
+use Rattle.laws.proofs.Rows.{get_d_any}
 
-module _ {A B : Type 0} (f : A → B) (n : ℕ) (xs : List A) (out : List B) (i : ℕ) where
-  -- what is written and what is still to come make all
-  abbrev pub Copying : Type 0
-  Copying = (i ≤ n) × (length out ≡ n) × (take i out ++ map f (drop i xs) ≡ map f xs)
+-- place by place
+alike : {A B : Type 0} (h : A → B) (xs : List A) (ys : List B) → length ys ≡ length xs → ((i : ℕ) (d : A) (e : B) → i < length xs → get_or ys i e ≡ h (get_or xs i d)) → ys ≡ map h xs
+alike h [] [] l p = refl
+alike h [] (y ∷ ys) l p = absurd (omega arith)
+alike h (x ∷ xs) [] l p = absurd (omega arith)
+alike h (x ∷ xs) (y ∷ ys) l p =
+    ap (λ (z : _). z ∷ ys) (p 0 x y (omega arith))
+    ∙ ap (λ (zs : List _). h x ∷ zs) (alike h xs ys (omega arith) (λ i d e k. p (suc i) d e (omega arith)))
 
-  -- all is written
-  pub copied : length xs ≡ n → n ≤ i → Copying → out ≡ map f xs
-  copied hx h inv =
-      sym (append-nil out)
-      ∙ ap (λ (l : List B). l ++ []) (sym (take_all i out (omega arith)))
-      ∙ ap (λ (l : List A). take i out ++ map f l) (sym (drop_of_length-le xs {i = i} (omega arith)))
-      ∙ inv.2
+-- `from_fn`, where each call gives h of the element at its index, and leaves the closure as it is
+module _ {F A B : Type 0} (g : Mut F (ℕ × Unit {0}) B) (c : F) (h : A → B) (xs : List A) where
+  abbrev pub Gives : Type 0
+  Gives = (i : ℕ) (y : B) (q : F) → i < length xs → Called g c (i, tt) y q → (q ≡ c) × (d : A) × (y ≡ h (get_or xs i d))
 
--- one more is written
-pub copy_turn : {A B : Type 0} (f : A → B) (n : ℕ) (xs : List A) (out : List B) (i : ℕ) (d : A) (v : B) → length xs ≡ n → i < n → Copying f n xs out i
-    → v ≡ f (get_or xs i d) → Copying f n xs (set out i v) (i + 1)
-copy_turn {A} {B} f n xs out i d v hx h inv e = (
-  omega arith,
-  length-set out i v ∙ inv.1,
-  ap (λ (k : ℕ). take k (set out i v) ++ map f (drop k xs)) (add-one i)
-      ∙ ap (λ (l : List B). l ++ map f (drop (suc i) xs)) (take-suc-set out i v (omega arith))
-      ∙ append_snoc (take i out) v (map f (drop (suc i) xs))
-      ∙ ap (λ (y : B). take i out ++ y ∷ map f (drop (suc i) xs)) e
-      ∙ ap (λ (l : List A). take i out ++ map f l) (sym (drop-cons xs i d (omega arith)))
-      ∙ inv.2,
-)
+  from_here : (ys : List B) → Gives → (n i : ℕ) (f : F) → f ≡ c → i + n ≡ length xs → IsFromFnResultFrom g f ys i n
+      → (k : ℕ) (d : A) (e : B) → i ≤ k → k < length xs → get_or ys k e ≡ h (get_or xs k d)
+  from_here ys gives zero i f s l m k d e a b = absurd (omega arith)
+  from_here ys gives (suc n) i f s l (q, y, el, call, rest) k d e a b =
+      let r = gives i y q (omega arith) (subst (λ (f : F). Called g f (i, tt) y q) s call) in
+      elim (cases_eq k i) [
+        | inl same ↦ ap (λ (j : ℕ). get_or ys j e) same ∙ el.1 e ∙ r.2 ∙ ap h (get_d_any xs i _ d (omega arith) ∙ ap (λ (j : ℕ). get_or xs j d) (sym same))
+        | inr other ↦ from_here ys gives n (i + 1) q r.0 (omega arith) rest k d e (omega arith) b
+      ]
+
+pub made : {F A B : Type 0} {g : Mut F (ℕ × Unit {0}) B} {c : F} (h : A → B) (xs : List A) (ys : List B) {n : ℕ} → length xs ≡ n → IsFromFnResult g c ys n → Gives g c h xs → ys ≡ map h xs
+made {g = g} {c = c} h xs ys {n} l m gives =
+    alike h xs ys (m.long ∙ sym l) (λ k d e b. from_here g c h xs ys gives n 0 c refl (omega arith) m.each k d e (omega arith) b)
+
+-- the test of each, in the words of std
+pub every_all : {A : Type 0} (p : A → Bool) (xs : List A) → list_all p xs ≡ every p xs
+unfolding every
+every_all p [] = refl
+every_all p (x ∷ xs) = ap (λ (b : Bool). p x && b) (every_all p xs)

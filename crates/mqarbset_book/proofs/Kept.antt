@@ -6,13 +6,12 @@ use mathlib.Core.List.{List, [], ◌∷◌, map}
 use Prim.Native.Nat.{ℕ, ◌+◌, ◌*◌, ◌/◌, ◌%◌}
 use native.Mathlib.Omega.{arith}
 use lib.Dec.{eqb, ltb}
+use Rattle.std.specs.Prelude.{Option, None, Some}
 use Rattle.laws.specs.Lists.{one, every}
 use Rattle.laws.proofs.Lists.{both}
 use Rattle.conditions.specs.declared.Direction.{Direction}
 use Rattle.conditions.specs.declared.Direction.TheVariants.{Up, Down}
 use Rattle.bookings.specs.declared.Booking.{Booking}
-use Rattle.slots.specs.declared.Way.{Way}
-use Rattle.slots.specs.declared.Way.TheVariants as way
 use Rattle.slots.specs.declared.Slot.{Slot}
 use Rattle.seats.specs.declared.Seat.{Seat}
 use Rattle.classbook.specs.declared.Book.{Book}
@@ -45,11 +44,11 @@ booking_proper : (x : Booking) → proper_booking (write_booking x) ≡ true
 unfolding write_booking
 booking_proper x = direction_proper x.direction
 
-way_proper : (w : Way) → not (ltb 2 (write_way w)) ≡ true
+way_proper : (w : Option Direction) → not (ltb 2 (write_way w)) ≡ true
 unfolding write_way
-way_proper way.Up = refl
-way_proper way.Down = refl
-way_proper way.Neither = refl
+way_proper (Some Up) = refl
+way_proper (Some Down) = refl
+way_proper None = refl
 
 slot_proper : (x : Slot) → proper_slot (write_slot x) ≡ true
 unfolding write_slot
@@ -79,11 +78,11 @@ booking_kept : (x : Booking) → read_booking (write_booking x) ≡ x
 unfolding read_booking write_booking
 booking_kept x = simp (direction_kept x.direction)
 
-way_kept : (w : Way) → read_way (write_way w) ≡ w
+way_kept : (w : Option Direction) → read_way (write_way w) ≡ w
 unfolding read_way write_way
-way_kept way.Up = refl
-way_kept way.Down = refl
-way_kept way.Neither = refl
+way_kept (Some Up) = refl
+way_kept (Some Down) = refl
+way_kept None = refl
 
 pattern_kept : (n : ℕ) → n % 256 + n / 256 * 256 ≡ n
 pattern_kept n = omega arith

@@ -5,8 +5,7 @@ use Rattle.conditions.specs.Conditions.{bad_type, bad_booked_user, bad_timeslot,
 use Rattle.refusals.specs.Refusals.{Refusals, first_of, after}
 use Rattle.bookings.specs.declared.Booking.{Booking}
 use Rattle.classbook.specs.declared.Book.{Book}
-use Rattle.classbook.specs.declared.BookAnswer.{BookAnswer}
-use Rattle.classbook.specs.Calls.{booking_refusals, booked, with_book}
+use Rattle.classbook.specs.Calls.{BookAnswer, booking_refusals, booked, with_book}
 use Rattle.mqarbset_book.specs.declared.MqBook.{MqBook}
 use Rattle.mqarbset_book.specs.declared.MqBookAnswer.{MqBookAnswer}
 use Rattle.mqarbset_book.specs.Mirror.{neither, read_direction, write_book}

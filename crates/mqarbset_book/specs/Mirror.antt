@@ -1,12 +1,10 @@
 -- The class book as bytes over C: how a caller's bytes are read as a book, whatever they are, and how a book is written as bytes. Cited by specs/Calls.antt.
 -- Assumes nothing.
-use Rattle.std.specs.Prelude.{Bool, false, cond, not, ◌&&◌, [], map, ℕ, ◌+◌, ◌*◌, ◌/◌, ◌%◌, eqb, ltb, replicate}
+use Rattle.std.specs.Prelude.{Bool, false, cond, not, ◌&&◌, [], map, ℕ, ◌+◌, ◌*◌, ◌/◌, ◌%◌, eqb, ltb, replicate, Option, None, Some}
 use Rattle.laws.specs.Lists.{one, every}
 use Rattle.conditions.specs.declared.Direction.{Direction}
 use Rattle.conditions.specs.declared.Direction.TheVariants.{Up, Down}
 use Rattle.bookings.specs.declared.Booking.{Booking}
-use Rattle.slots.specs.declared.Way.{Way}
-use Rattle.slots.specs.declared.Way.TheVariants as way
 use Rattle.slots.specs.declared.Slot.{Slot}
 use Rattle.slots.specs.Slots.{summary_of}
 use Rattle.seats.specs.declared.Seat.{Seat}
@@ -40,8 +38,8 @@ read_booking x =
     }
 
 -- 0 is neither, 1 is up and 2 is down: an empty book is all zeros
-unfoldable pub read_way : ℕ → Way
-read_way w = cond (eqb w 1) way.Up (cond (eqb w 2) way.Down way.Neither)
+unfoldable pub read_way : ℕ → Option Direction
+read_way w = cond (eqb w 1) (Some Up) (cond (eqb w 2) (Some Down) None)
 
 -- what is kept of a timeslot, byte by byte: of the pattern the low byte, then the high one
 unfoldable pub read_slot : MqSlot → Slot
@@ -108,10 +106,10 @@ write_booking x =
       tpc = x.tpc;
     }
 
-unfoldable pub write_way : Way → ℕ
-write_way way.Neither = 0
-write_way way.Up = 1
-write_way way.Down = 2
+unfoldable pub write_way : Option Direction → ℕ
+write_way None = 0
+write_way (Some Up) = 1
+write_way (Some Down) = 2
 
 -- what is kept of a timeslot, byte by byte
 unfoldable pub write_slot : Slot → MqSlot

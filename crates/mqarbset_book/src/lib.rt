@@ -5,13 +5,14 @@ mod reading;
 mod writing;
 
 ghost use Rattle.std.specs.Prelude.{◌≡◌};
-ghost use Rattle.mqarbset_book.specs.Mirror.{read_direction};
+ghost use Rattle.classbook.specs.Calls.{said_book};
+ghost use Rattle.mqarbset_book.specs.Mirror.{read_direction, proper_booking, proper_slot, proper_seat, proper};
 ghost use Rattle.mqarbset_book.specs.Inside.{factor_beside};
 ghost use Rattle.mqarbset_book.specs.Calls.{handed_back};
 
-use classbook::BookAnswer;
+use classbook::Book;
 use conditions::Direction;
-pub use reading::read_book;
+use refusals::Refusal;
 
 // A booking in eight bytes: direction 0 is up, 1 is down.
 #[repr(C)]
@@ -27,6 +28,16 @@ pub struct MqBooking {
     pub tpc: u8,
 }
 
+impl MqBooking {
+    // Whether each byte that should be 0 or 1 is.
+    #[tactic(auto, unfolding(crate::specs::Mirror::neither))]
+    fn is_proper(self) -> bool
+        ensures { result ≡ proper_booking self }
+    {
+        !(self.direction > 1)
+    }
+}
+
 // What is kept of a timeslot, in five bytes: the pattern's low and high byte, the way (0 neither, 1 up, 2 down), how many bookings, and 1 where they are type 2.
 #[repr(C)]
 #[derive(Clone, Copy)]
@@ -36,6 +47,16 @@ pub struct MqSlot {
     pub way: u8,
     pub count: u8,
     pub second: u8,
+}
+
+impl MqSlot {
+    // Whether each byte that should be 0 or 1, or 0 to 2, is.
+    #[tactic(auto, unfolding(crate::specs::Mirror::neither))]
+    fn is_proper(self) -> bool
+        ensures { result ≡ proper_slot self }
+    {
+        !(self.way > 2) & !(self.second > 1)
+    }
 }
 
 // A seat: live 0 is closed, 1 is open.
@@ -53,10 +74,30 @@ pub struct MqSeat {
     pub slots: [MqSlot; 15],
 }
 
+impl MqSeat {
+    // The same of the whole seat.
+    fn is_proper(&self) -> bool
+        ensures { result ≡ proper_seat self.now }
+    {
+        !(self.live > 1)
+            & self.row.iter().all(|x| x.is_proper())
+            & self.slots.iter().all(|x| x.is_proper())
+    }
+}
+
 #[repr(C)]
 #[derive(Clone, Copy)]
 pub struct MqBook {
     pub seats: [MqSeat; 16],
+}
+
+impl MqBook {
+    // The same of each seat.
+    fn is_proper(&self) -> bool
+        ensures { result ≡ proper self.now }
+    {
+        self.seats.iter().all(|s| s.is_proper())
+    }
 }
 
 // The refusal's number, or 0, and the book as the call leaves it.
@@ -68,6 +109,7 @@ pub struct MqBookAnswer {
 }
 
 // 0 is up and 1 is down.
+#[tactic(auto, unfolding(crate::specs::Mirror::read_direction))]
 pub fn read_direction(d: u32) -> Direction
     ensures { result ≡ read_direction d }
 {
@@ -79,23 +121,26 @@ pub fn read_direction(d: u32) -> Direction
 }
 
 // The factor beside a direction: 0, which is none, where that is neither up nor down, so that the call is refused at 6.
+#[tactic(auto, unfolding(crate::specs::Mirror::neither, crate::specs::Inside::factor_beside))]
 pub fn factor_beside(direction: u32, factor: u32) -> u32
     ensures { result ≡ factor_beside direction factor }
 {
     if direction > 1 { 0 } else { factor }
 }
 
-// An answer over C to the caller's book b: a refused call hands the very same bytes back.
-pub fn handed_back(b: MqBook, a: BookAnswer) -> MqBookAnswer
-    ensures { result ≡ handed_back b a }
+// What a call on the book that the caller's bytes b say answered, and the book that it made: a refused call hands the very same bytes back.
+#[tactic(auto, unfolding(crate::specs::Calls::handed_back, refusals::specs::Refusals::after), using(refusals::proofs::First::after_refused, refusals::proofs::Numbers::number_not_0))]
+pub fn handed_back(b: MqBook, r: Result<(), Refusal>, made: &Book) -> MqBookAnswer
+    ensures { result ≡ handed_back b (said_book r made.now) }
 {
-    if a.refusal != 0 {
-        return MqBookAnswer {
-            refusal: a.refusal,
+    match r {
+        Ok(()) => MqBookAnswer {
+            refusal: 0,
+            book: MqBook::from(made),
+        },
+        Err(refusal) => MqBookAnswer {
+            refusal: refusal.number(),
             book: b,
-        };
+        },
     }
-    let made = a.book;
-    let book = writing::write_book(made, b);
-    MqBookAnswer { refusal: 0, book }
 }

@@ -12,9 +12,6 @@ use Rattle.correlating.proofs.correlating_sums.Goals as goal
 pub fill_signs-requires : goal.fill_signs-requires
 fill_signs-requires c = let near = reach_high 1 in (search rules, near)
 
-pub loop-t-init : goal.loop-t-init
-loop-t-init c = (omega arith, refl, refl, refl)
-
 pub turn-requires : goal.turn-requires
 turn-requires c =
     let long : 1024 ≤ length c.args.row.now = search rules in
@@ -32,9 +29,3 @@ sixteen-requires c =
       in_bounds = (search rules, search rules, search rules, search rules);
       samples = (record { all = λ m h. (turned.real m h).0 }, record { all = λ m h. (turned.imaginary m h).0 }, are_signs _ 1 (reach 1) (reach 1) _ signs (omega arith));
     }
-
-pub loop-t-preserved : goal.loop-t-preserved
-loop-t-preserved c = (omega arith, search rules, search rules, search rules)
-
-pub shape_of-out : goal.shape_of-out
-shape_of-out c = c.loop-t.invariant.1

@@ -11,9 +11,6 @@ long-code : (code_of 1).length ≡ 512
 unfolding code_of
 long-code = refl
 
-pub loop-user-init : goal.loop-user-init
-loop-user-init c = (omega arith, refl)
-
 pub user_sums-s-requires : goal.user_sums-s-requires
 user_sums-s-requires c =
     let p = c.requires in
@@ -24,12 +21,3 @@ user_sums-s-requires c =
       count_in_bounds = (p.in_bounds.0, p.in_bounds.1, omega (arith, long-code));
       samples = (p.samples.0, p.samples.1, record { all = λ m h. p.samples.2.all m (omega (arith, long-code)) });
     }
-
-pub bounds-out-place-in-loop-user : goal.bounds-out-place-in-loop-user
-bounds-out-place-in-loop-user c = simp length-set (omega arith)
-
-pub loop-user-preserved : goal.loop-user-preserved
-loop-user-preserved c = (omega arith, simp length-set c.loop-user.invariant.1)
-
-pub shape_of-out : goal.shape_of-out
-shape_of-out c = c.loop-user.invariant.1

@@ -1,28 +1,22 @@
 -- `mqarbset_list::list` meets its promise: short memory, refused, or the seat's bookings written.
 -- Assumes nothing.
-use mathlib.Core.Path.{ap, ◌∙◌}
 use native.Mathlib.Omega.{arith}
-use Rattle.classbook.specs.declared.Book.{Book}
-use Rattle.classbook.specs.Calls.{list_answer}
-use Rattle.mqarbset_answers.specs.Answers.{answer_as_c, outcome_as_c}
-use Rattle.mqarbset_list.proofs.Listed.{list_short, list_refused, list_few, list_given}
+use Rattle.mqarbset_list.proofs.Listed.{list_short, list_refused, list_few, list_room, list_given}
 use Rattle.mqarbset_list.proofs.list.Goals as goal
 
-pub returns-then-out-lt320 : goal.returns-then-out-lt320
-unfolding outcome_as_c answer_as_c
-returns-then-out-lt320 c = ap outcome_as_c (list_short _ _ _ (omega (arith, c.if-out-lt320.true)))
+pub returns-in_err-when : goal.returns-in_err-when
+returns-in_err-when c =
+    let w = c.in_err-when.ensures in
+    list_short _ _ _ _ _ c.from_residual.ensures.1 w.refused.0 w.refused.1
 
-pub returns-then-l-ne0 : goal.returns-then-l-ne0
-unfolding outcome_as_c answer_as_c
-returns-then-l-ne0 c =
-    ap outcome_as_c (list_refused _ _ _ _ ((c.list_seat-l.ensures ∙ ap (λ (b : Book). list_answer b c.args.seat) c.read_book-c.ensures)) (omega (arith, c.if-out-lt320.false)) c.if-l-ne0.true)
+pub returns-in_err-l : goal.returns-in_err-l
+returns-in_err-l c = list_refused _ _ _ c.in_ok-when.ensures.passed _ _ c.from_residual-in_err-l.ensures.1 c.in_err-l.ensures
+
+pub shared_ref_as_front-row : goal.shared_ref_as_front-row
+shared_ref_as_front-row c = list_few c.args.b.now c.args.seat c.args.out.now c.in_ok-when.ensures.passed c.in_ok-l.l c.in_ok-l.ensures
 
 pub put_all-requires : goal.put_all-requires
-put_all-requires c =
-    let few = list_few _ _ c.args.out.now _ ((c.list_seat-l.ensures ∙ ap (λ (b : Book). list_answer b c.args.seat) c.read_book-c.ensures)) (omega (arith, c.if-out-lt320.false)) c.if-l-ne0.false in
-    (few, omega (arith, c.if-out-lt320.false))
+put_all-requires c = list_room c.args.b.now c.args.seat c.args.out.now c.in_ok-when.ensures.passed c.in_ok-l.l c.in_ok-l.ensures
 
 pub returns : goal.returns
-unfolding outcome_as_c answer_as_c
-returns c =
-    ap outcome_as_c (list_given _ _ _ _ ((c.list_seat-l.ensures ∙ ap (λ (b : Book). list_answer b c.args.seat) c.read_book-c.ensures)) (omega (arith, c.if-out-lt320.false)) _ c.if-l-ne0.false c.put_all.ensures.1 c.put_all.ensures.0)
+returns c = list_given c.args.b.now c.args.seat c.args.out.now c.in_ok-when.ensures.passed c.in_ok-l.l c.in_ok-l.ensures _ (omega arith) c.put_all.ensures

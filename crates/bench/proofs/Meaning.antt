@@ -1,11 +1,10 @@
 -- What a line does to the book, from what the parts of the program promise. Cited by the proofs of `calls` and `lines`.
 -- Assumes nothing.
-use Rattle.std.proofs.Common.{◌≡◌, ℕ, suc, ◌+◌, ◌-◌, ◌<◌, ◌≤◌, Bool, true, false, cond, not, List, length, take, drop, sym, refl, ap, ◌∙◌, arith, length-drop, length-take-le, take_all, le-ltb, lt-ltb}
-use borrow.Author.Tests.{not-true, not-false}
+use Rattle.std.proofs.Common.{◌≡◌, ℕ, suc, ◌+◌, ◌-◌, ◌<◌, ◌≤◌, Bool, true, false, cond, List, length, take, drop, sym, refl, ap, ◌∙◌, arith, length-drop, length-take-le, take_all, le-ltb, lt-ltb}
 use Rattle.laws.specs.Text.{bytes}
 use Rattle.laws.proofs.Parts.{length_none}
 use Rattle.classbook.specs.declared.Book.{Book}
-use Rattle.classbook.specs.declared.BookAnswer.{BookAnswer}
+use Rattle.classbook.specs.Calls.{BookAnswer}
 use Rattle.lesson_words.specs.Words.{is_byte, until, is_blank_byte, is_ink, ink_of, word_in, rest_of, same_text, is_text}
 use Rattle.lesson_words.specs.declared.numbers.Values.{Values}
 use Rattle.lesson_words.specs.Numbers.{fits, values_of}
@@ -29,16 +28,15 @@ module _ (call : ℕ) (v : Values) (b r : Book) where
   made_other h q = q ∙ sym (ap (λ (t : Bool). cond t (asked_by call v b).book b) (le-ltb _ _ h))
 
 -- a line whose words are those of its call, and one whose words are not
-module _ (call : ℕ) (kinds rest : List ℕ) (b r : Book) (f : Bool) (e : f ≡ fits kinds rest) where
-  pub worded_on : (v : Values) → not f ≡ false → v ≡ values_of kinds rest → r ≡ made_by call v b → r ≡ worded_by call kinds rest b
+module _ (call : ℕ) (kinds rest : List ℕ) (b r : Book) where
+  pub worded_on : (v : Values) → fits kinds rest ≡ true → v ≡ values_of kinds rest → r ≡ made_by call v b → r ≡ worded_by call kinds rest b
   unfolding worded_by
   worded_on v t q m =
-      m ∙ ap (λ (x : Values). made_by call x b) q
-      ∙ sym (ap (λ (k : Bool). cond k (made_by call (values_of kinds rest) b) b) (sym e ∙ not-false f t))
+      m ∙ ap (λ (x : Values). made_by call x b) q ∙ sym (ap (λ (k : Bool). cond k (made_by call (values_of kinds rest) b) b) t)
 
-  pub worded_off : not f ≡ true → r ≡ b → r ≡ worded_by call kinds rest b
+  pub worded_off : fits kinds rest ≡ false → r ≡ b → r ≡ worded_by call kinds rest b
   unfolding worded_by
-  worded_off t q = q ∙ sym (ap (λ (k : Bool). cond k (made_by call (values_of kinds rest) b) b) (sym e ∙ not-true f t))
+  worded_off t q = q ∙ sym (ap (λ (k : Bool). cond k (made_by call (values_of kinds rest) b) b) t)
 
 -- a call above the four leaves the book
 worded_above : (call : ℕ) (kinds rest : List ℕ) (b : Book) → 4 ≤ call → b ≡ worded_by call kinds rest b
@@ -50,14 +48,14 @@ pub worded_other : (call : ℕ) (kinds rest : List ℕ) (b : Book) (k : ℕ) →
 worded_other call kinds rest b k h e = worded_above call kinds rest b (omega (arith, h, e))
 
 -- a call of the table, and a name that it does not have
-module _ (table name rest : List ℕ) (b r : Book) (number : ℕ) (n : number ≡ number_in 20 name table) where
-  pub tabled_none : number ≡ 20 → r ≡ b → r ≡ tabled_by table name rest b
+module _ (table name rest : List ℕ) (b r : Book) where
+  pub tabled_none : number_in 20 name table ≡ 20 → r ≡ b → r ≡ tabled_by table name rest b
   unfolding tabled_by
-  tabled_none h e = e ∙ worded_above (number_in 20 name table) (kinds_in 20 name table) rest b (omega (arith, n, h))
+  tabled_none h e = e ∙ worded_above (number_in 20 name table) (kinds_in 20 name table) rest b (omega (arith, h))
 
-  pub tabled_one : (kinds : List ℕ) → kinds ≡ kinds_in 20 name table → r ≡ worded_by number kinds rest b → r ≡ tabled_by table name rest b
+  pub tabled_one : (number : ℕ) (kinds : List ℕ) → number ≡ number_in 20 name table → kinds ≡ kinds_in 20 name table → r ≡ worded_by number kinds rest b → r ≡ tabled_by table name rest b
   unfolding tabled_by
-  tabled_one kinds k e = e ∙ ap (λ (i : ℕ). worded_by i kinds rest b) n ∙ ap (λ (l : List ℕ). worded_by (number_in 20 name table) l rest b) k
+  tabled_one number kinds n k e = e ∙ ap (λ (i : ℕ). worded_by i kinds rest b) n ∙ ap (λ (l : List ℕ). worded_by (number_in 20 name table) l rest b) k
 
 -- the table's first entry is the one, or the next is asked
 entry : (n i : ℕ) (name rest : List ℕ) (b : Book) (table word kinds next : List ℕ) → word_in table ≡ word → word_in (rest_of table) ≡ kinds → rest_of (rest_of table) ≡ next

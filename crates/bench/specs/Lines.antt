@@ -4,7 +4,7 @@ use Rattle.std.specs.Prelude.{ℕ, cond, List, length, take, nat_lt}
 use Prim.Native.String.{String}
 use Rattle.laws.specs.Text.{bytes}
 use Rattle.classbook.specs.declared.Book.{Book}
-use Rattle.classbook.specs.declared.BookAnswer.{BookAnswer}
+use Rattle.classbook.specs.Calls.{BookAnswer}
 use Rattle.lesson_words.specs.Words.{is_byte, until, word_in, rest_of, is_text}
 use Rattle.lesson_words.specs.declared.numbers.Values.{Values}
 use Rattle.lesson_words.specs.Numbers.{fits, values_of}

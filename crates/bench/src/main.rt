@@ -9,73 +9,63 @@ mod lines;
 
 ghost use Rattle.std.specs.Prelude.{◌≤◌, length, IfSome};
 
+use lesson_replies::say;
 use lesson_words::words;
 use lines::Session;
-use printing::Outputs;
+use printing::{Lines, Outputs};
 use std::io::{IsTerminal, Read};
 use std::rt::Env;
 
-// The next byte of the input into place `at`: 0 where none came or there is no such place, 1 for a byte that is not this one of the mark, 2 for this one.
-fn byte(input: &mut impl Read, first: &mut [u8], at: usize, mark: u8) -> u32 {
-    if at >= first.len() {
-        return 0;
-    }
-    let mut one = [0u8; 1];
+// The next byte of the input, if one comes.
+fn byte(input: &mut impl Read) -> Option<u8> {
+    let mut one = [0; 1];
     match input.read(&mut one) {
-        Ok(0) | Err(_) => return 0,
-        Ok(_) => {}
+        Ok(0) | Err(_) => None,
+        Ok(_) => Some(one[0]),
     }
-    let b = one[0];
-    first[at] = b;
-    if b == mark { 2 } else { 1 }
 }
 
-// Passes over a byte order mark of UTF-8 at the start of the input. Where there is none, the bytes that were read to see it stand in `first`, and it answers how many;
+// A byte order mark of UTF-8.
+const MARK: [u8; 3] = [239, 187, 191];
+
+// Passes over such a mark at the start of the input. Where there is none, the bytes that were read to see it stand in `first`, and it answers how many;
 // no more are read than that takes.
 fn behind_mark(input: &mut impl Read, first: &mut [u8; 3]) -> usize
     ensures { result ≤ 3 }
 {
-    match byte(input, first, 0, 239) {
-        0 => return 0,
-        1 => return 1,
-        _ => {}
+    for i in 0..3 {
+        let Some(b) = byte(input) else { return i };
+        first[i] = b;
+        if b != MARK[i] {
+            return i + 1;
+        }
     }
-    match byte(input, first, 1, 187) {
-        0 => return 1,
-        1 => return 2,
-        _ => {}
-    }
-    match byte(input, first, 2, 191) {
-        0 => 2,
-        1 => 3,
-        _ => 0,
-    }
+    0
 }
 
 // Whether there is the argument `--echo`.
 fn echo_asked(rt: &impl Env) -> bool {
-    let mut word = [0u8; 8];
+    let mut word = [0; 8];
     match rt.arg(1, &mut word) {
-        Ok(n) => words::same(&word[..n], b"--echo"),
+        Ok(n) => &word[..n] == b"--echo".as_slice(),
         Err(_) => false,
     }
 }
 
 // A session has begun: no mark stands before its first line, where the input may have one, as it may where nobody types.
-fn begun<R: Outputs + Env>(
-    rt: &R,
+fn begun(
+    out: &mut Lines<'_, impl Outputs>,
     input: &mut impl Read,
     terminal: bool,
-    line: &mut [u8; 8192],
-    out: &mut [u8; 4096],
+    echo: bool,
 ) -> Session {
-    let s = lines::start(echo_asked(rt));
-    if terminal {
-        return s;
+    let mut s = Session::start(echo);
+    if !terminal {
+        let mut first = [0; 3];
+        let n = behind_mark(input, &mut first);
+        s.block(out, &first[..n]);
     }
-    let mut first = [0u8; 3];
-    let n = behind_mark(input, &mut first);
-    lines::block(rt, &first[..n], line, out, s)
+    s
 }
 
 // Whether the first word of a line is `quit`.
@@ -83,22 +73,19 @@ fn quits(bytes: &[u8]) -> bool {
     let end = words::find(bytes, 0, b'\n');
     let text = &bytes[..end];
     let w = words::word(text, 0);
-    let from = w.from;
-    let to = w.to;
-    words::same(&text[from..to], b"quit")
+    &text[w.from..w.to] == b"quit".as_slice()
 }
 
 // Reads once and says how many bytes came, 0 at the end of the input; `None` where output can't be written, where input can't be read, which is said, and where somebody types `quit`.
 fn next(
-    rt: &impl Outputs,
+    out: &Lines<'_, impl Outputs>,
     input: &mut impl Read,
     block: &mut [u8],
-    at: usize,
     typed: bool,
 ) -> Option<usize>
     ensures { IfSome result (λ n. n ≤ length block.new) }
 {
-    if at == printing::CLOSED {
+    if out.is_closed() {
         return None;
     }
     match input.read(block) {
@@ -109,33 +96,31 @@ fn next(
             Some(n)
         }
         Err(error) => {
-            printing::fail(rt, "bench: standard input", &error);
+            out.fail("bench: standard input", &error);
             None
         }
     }
 }
 
-// Writes out the replies, reads once, and answers every line that ends in what came; and so on until nothing more comes, or nothing more is to be answered.
+// Writes out the replies, and a prompt where somebody types, reads once, and answers every line that ends in what came; and so on until nothing more comes, or nothing more
+// is to be answered. At the end of the input a line may stand that has no LF; what is left of one anywhere else is none.
 // Nothing says that the input ends, and a proved loop has to: it counts its reads up to a number that no run reaches.
 fn all(
-    rt: &impl Outputs,
+    out: &mut Lines<'_, impl Outputs>,
     input: &mut impl Read,
     block: &mut [u8; 65536],
-    line: &mut [u8; 8192],
-    out: &mut [u8; 4096],
-    s: Session,
+    s: &mut Session,
     typed: bool,
-) -> Session {
-    let mut t = s;
+) {
     for _ in 0..u64::MAX {
-        let u = lines::waiting(rt, out, t, typed);
-        match next(rt, input, block, u.at, typed) {
-            None => return lines::last(rt, line, out, u, false),
-            Some(0) => return lines::last(rt, line, out, u, true),
-            Some(n) => t = lines::block(rt, &block[..n], line, out, u),
+        say::prompt(out, typed);
+        out.flush();
+        match next(out, input, block, typed) {
+            None => return,
+            Some(0) => return s.last(out),
+            Some(n) => s.block(out, &block[..n]),
         }
     }
-    t
 }
 
 fn main(rt: HostRuntime) {
@@ -143,10 +128,9 @@ fn main(rt: HostRuntime) {
     let terminal = input.is_terminal();
     // whether somebody types, and sees the replies
     let typed = terminal & rt.stdout().is_terminal();
-    let mut block = [0u8; 65536];
-    let mut line = [0u8; 8192];
-    let mut out = [0u8; 4096];
-    let s = begun(&rt, &mut input, terminal, &mut line, &mut out);
-    let t = all(&rt, &mut input, &mut block, &mut line, &mut out, s, typed);
-    printing::flush(&rt, &out, t.at);
+    let mut block = [0; 65536];
+    let mut out = Lines::new(&rt);
+    let mut s = begun(&mut out, &mut input, terminal, echo_asked(&rt));
+    all(&mut out, &mut input, &mut block, &mut s, typed);
+    out.flush();
 }

@@ -6,8 +6,7 @@ use borrow.Author.Tests.{ne_eqb}
 use Rattle.conditions.specs.declared.Direction.{Direction}
 use Rattle.classbook.specs.declared.Book.{Book}
 use Rattle.classbook.specs.declared.Request.{Request}
-use Rattle.classbook.specs.declared.BookAnswer.{BookAnswer}
-use Rattle.classbook.specs.Calls.{book_answer}
+use Rattle.classbook.specs.Calls.{BookAnswer, book_answer}
 use Rattle.lesson_words.specs.declared.numbers.Values.{Values}
 use Rattle.lesson_words.specs.Numbers.{direction_by}
 use Rattle.lesson_book.specs.Asked.{request_of, book_asked, close_asked, asked_by}

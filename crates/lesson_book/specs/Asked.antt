@@ -3,8 +3,7 @@
 use Rattle.std.specs.Prelude.{cond, ℕ, eqb}
 use Rattle.classbook.specs.declared.Book.{Book}
 use Rattle.classbook.specs.declared.Request.{Request}
-use Rattle.classbook.specs.declared.BookAnswer.{BookAnswer}
-use Rattle.classbook.specs.Calls.{open_answer, book_answer, cancel_answer, close_answer}
+use Rattle.classbook.specs.Calls.{BookAnswer, open_answer, book_answer, cancel_answer, close_answer}
 use Rattle.lesson_words.specs.declared.numbers.Values.{Values}
 use Rattle.lesson_words.specs.Numbers.{direction_by}
 

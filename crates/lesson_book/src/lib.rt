@@ -3,15 +3,18 @@
 #![tactic(auto)]
 
 ghost use Rattle.std.specs.Prelude.{◌≡◌};
+ghost use Rattle.classbook.specs.Calls.{said_book};
 ghost use Rattle.lesson_book.specs.Asked.{open_asked, request_of, book_asked, cancel_asked, close_asked, asked_by};
 
-use classbook::{Book, BookAnswer, Request};
+use classbook::{Book, Request};
 use lesson_words::numbers;
 use lesson_words::numbers::Values;
+use refusals::Refusal;
 
 // `open SEAT CELL CASE K LONG SHORT`
-fn opened(v: Values, b: Book) -> BookAnswer
-    ensures { result ≡ open_asked v b }
+#[tactic(auto, unfolding(crate::specs::Asked::open_asked))]
+fn opened(v: Values, b: &mut Book) -> Result<(), Refusal>
+    ensures { said_book result b.new ≡ open_asked v b.old }
 {
     classbook::open_seat(b, v.first, v.second, v.third, v.fourth, v.fifth, v.sixth)
 }
@@ -33,30 +36,31 @@ fn request(v: Values) -> Request
 }
 
 // `book SEAT SLOT up|down TYPE FACTOR INDEX USER TFCI TPC`
-fn booked(v: Values, b: Book) -> BookAnswer
-    ensures { result ≡ book_asked v b }
+fn booked(v: Values, b: &mut Book) -> Result<(), Refusal>
+    ensures { said_book result b.new ≡ book_asked v b.old }
 {
-    let x = request(v);
-    classbook::book_code(b, v.first, x)
+    classbook::book_code(b, v.first, request(v))
 }
 
 // `cancel SEAT SLOT FACTOR INDEX`
-fn cancelled(v: Values, b: Book) -> BookAnswer
-    ensures { result ≡ cancel_asked v b }
+#[tactic(auto, unfolding(crate::specs::Asked::cancel_asked))]
+fn cancelled(v: Values, b: &mut Book) -> Result<(), Refusal>
+    ensures { said_book result b.new ≡ cancel_asked v b.old }
 {
     classbook::cancel_code(b, v.first, v.second, v.third, v.fourth)
 }
 
 // `close SEAT`
-fn closed(v: Values, b: Book) -> BookAnswer
-    ensures { result ≡ close_asked v b }
+#[tactic(auto, unfolding(crate::specs::Asked::close_asked))]
+fn closed(v: Values, b: &mut Book) -> Result<(), Refusal>
+    ensures { said_book result b.new ≡ close_asked v b.old }
 {
     classbook::close_seat(b, v.first)
 }
 
 // One of the four by its number: 0 opens, 1 books, 2 cancels, and any other closes.
-pub fn asked(call: u32, v: Values, b: Book) -> BookAnswer
-    ensures { result ≡ asked_by call v b }
+pub fn asked(call: u32, v: Values, b: &mut Book) -> Result<(), Refusal>
+    ensures { said_book result b.new ≡ asked_by call v b.old }
 {
     match call {
         0 => opened(v, b),

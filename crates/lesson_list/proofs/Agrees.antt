@@ -6,23 +6,24 @@ use Prim.Native.Nat.{ℕ, zero, suc, ◌-◌, ◌+◌, ◌≤◌}
 use native.Mathlib.Omega.{arith}
 use lib.ListN.{length, drop, replicate, length-replicate, replicate-append-replicate}
 use lib.Seq.{drop_at}
-use Rattle.refusals.specs.Refusals.{Answer, refused, answered, Outcome, ◌leaving◌}
-use Rattle.refusals.specs.Refusals.{first_of, answer, after}
+use Rattle.std.specs.Prelude.{Result, Ok, Err}
+use Rattle.std.specs.Result.{IsErrAnd}
+use Rattle.std.proofs.lemmas.Result.{err_from_is_err_and}
+use Rattle.refusals.specs.declared.Refusal.{Refusal}
+use Rattle.refusals.specs.Refusals.{Answer, refused, answered, Outcome, ◌leaving◌, first_of, answer, after, number_of, said}
 use Rattle.refusals.proofs.First.{answer_refused, after_refused}
+use Rattle.refusals.proofs.Numbers.{number_not_0}
 use Rattle.bookings.specs.declared.Booking.{Booking}
 use Rattle.seats.specs.declared.Seat.{Seat}
 use Rattle.seats.specs.Seats.{blank, held, bookings}
 use Rattle.plans.proofs.Plans.{plan_length, blank_row}
 use Rattle.classbook.specs.declared.Book.{Book}
-use Rattle.classbook.specs.declared.ListAnswer.{ListAnswer}
+use Rattle.classbook.specs.declared.List as listed
 use Rattle.classbook.specs.Book.{seat_of}
-use Rattle.classbook.specs.Calls.{seat_refusals, list_answer}
+use Rattle.classbook.specs.Calls.{ListAnswer, seat_refusals, list_answer, said_list}
 use Rattle.classbook.proofs.Passed.{seat_good, seat_passed}
 use Rattle.classbook.proofs.Valid.{Sized}
-use Rattle.listing.specs.declared.ListReply.{ListReply}
-use Rattle.listing.specs.declared.ListReply.TheVariants as reply
-use Rattle.listing.specs.Listing.{few_records, list_refusals, list_outcome, said_list}
-use Rattle.lesson_list.specs.Inside.{by_value}
+use Rattle.listing.specs.Listing.{few_records, list_refusals, list_outcome}
 
 -- a list by value, and an outcome by value
 abbrev names : ℕ → ℕ → List Booking → ListAnswer
@@ -31,12 +32,6 @@ names n m row = record { refusal = n; count = m; row = row }
 abbrev by_outcome : Outcome ℕ (List Booking) → ListAnswer
 by_outcome (refused n leaving row) = names n 0 row
 by_outcome (answered m leaving row) = names 0 m row
-
-by_value_says : (r : ListReply) (row : List Booking)
-    → by_value r row ≡ by_outcome (said_list r leaving row)
-unfolding by_value said_list
-by_value_says (reply.Refused n) row = refl
-by_value_says (reply.Listed n) row = refl
 
 -- what stands behind the first k of n that are alike
 behind : {A : Type 0} (a : A) (k n : ℕ) → k ≤ n → drop k (replicate n a) ≡ replicate (n - k) a
@@ -78,9 +73,18 @@ module _ (b : Book) (seat : ℕ) (sized : Sized b) where
       ∙ ap (λ (k : ℕ). names (suc m) k (after (suc m) none s.row))
       (sym (after_refused (suc m) 0 (held s) h))
 
-  pub lent_agrees : (r : ListReply) (ys zs : List Booking) → ys ≡ replicate 40 blank
-      → (said_list r leaving zs) ≡ list_outcome b seat ys → by_value r zs ≡ list_answer b seat
+  -- what the list into blank records replied, with what it left in them, is the list by value
+  pub lent_agrees : (r : Result ℕ Refusal) (ys zs : List Booking) → ys ≡ none → (said r leaving zs) ≡ list_outcome b seat ys → by_outcome (said r leaving zs) ≡ list_answer b seat
   unfolding list_outcome list_refusals few_records first_of list_answer
-  lent_agrees r ys zs e said =
-      by_value_says r zs ∙ ap by_outcome (said ∙ ap (list_outcome b seat) e)
-      ∙ by_number (first_of (seat_refusals b seat)) refl
+  lent_agrees r ys zs e told = ap by_outcome (told ∙ ap (list_outcome b seat) e) ∙ by_number (first_of (seat_refusals b seat)) refl
+
+  -- refused, the records are as they were lent
+  pub refused_agrees : (r : Result listed.List Refusal) (e : Refusal) (zs : List Booking) → IsErrAnd r (λ y. y ≡ e) → names (number_of e) 0 zs ≡ list_answer b seat → said_list r ≡ list_answer b seat
+  unfolding list_answer
+  refused_agrees r e zs h told =
+      let p = err_from_is_err_and r h in
+      let m : ℕ = first_of (seat_refusals b seat) in
+      let n : number_of e ≡ m = ap (λ (a : ListAnswer). a.refusal) told in
+      let left : after m none s.row ≡ none = after_refused m none s.row (λ z. number_not_0 e (n ∙ z)) in
+      let row : zs ≡ none = ap (λ (a : ListAnswer). a.row) told ∙ left in
+      rw (p.1, p.2) (ap (names (number_of e) 0) (sym row) ∙ told)

@@ -2,46 +2,17 @@
 // and left in them is handed on by value.
 #![tactic(auto)]
 
-ghost use Rattle.std.specs.Prelude.{◌≡◌, replicate};
-ghost use Rattle.seats.specs.Seats.{blank};
-ghost use Rattle.classbook.specs.Calls.{list_answer};
-ghost use Rattle.lesson_list.specs.Inside.{by_value};
+ghost use Rattle.std.specs.Prelude.{◌≡◌};
+ghost use Rattle.classbook.specs.Calls.{said_list, list_answer};
 
-use bookings::Booking;
-use classbook::{Book, ListAnswer};
-use listing::ListReply;
+use classbook::{Book, List};
+use refusals::Refusal;
 
-// Forty records to lend, all blank.
-fn forty_records() -> [Booking; 40]
-    ensures { result ≡ replicate 40 blank }
+// `list SEAT`: the list into lent records, all blank, which is the list by value.
+pub fn listed(b: Book, seat: u32) -> Result<List, Refusal>
+    ensures { said_list result ≡ list_answer b seat }
 {
-    let none = seats::blank_booking();
-    [none; 40]
-}
-
-// A reply and the records, as one value.
-fn by_value(reply: ListReply, row: [Booking; 40]) -> ListAnswer
-    ensures { result ≡ by_value reply row }
-{
-    match reply {
-        ListReply::Refused(n) => ListAnswer {
-            refusal: n,
-            count: 0,
-            row,
-        },
-        ListReply::Listed(n) => ListAnswer {
-            refusal: 0,
-            count: n,
-            row,
-        },
-    }
-}
-
-// `list SEAT`: the list into lent records, which is the list by value.
-pub fn listed(b: Book, seat: u32) -> ListAnswer
-    ensures { result ≡ list_answer b seat }
-{
-    let mut row = forty_records();
-    let reply = listing::list(b, seat, &mut row);
-    by_value(reply, row)
+    let mut row = [seats::blank_booking(); 40];
+    let count = listing::list(&b, seat, &mut row)?;
+    Ok(List { count, row })
 }

@@ -1,6 +1,6 @@
 -- docs/LESSONS.md, `summary SEAT SLOT`: the reply as a line of the form in `summary_calls::summary`, counted from 0, and the numbers in it: the leaves' digits, and N.
 -- Cited by the promises of `summary_calls`. Assumes nothing.
-use Rattle.std.specs.Prelude.{ℕ, ◌/◌, ◌%◌, ◌^◌, List, [], ◌∷◌, ◌++◌, map, replicate}
+use Rattle.std.specs.Prelude.{ℕ, ◌/◌, ◌%◌, ◌^◌, List, [], ◌∷◌, ◌++◌, map}
 use Rattle.refusals.specs.Refusals.{Answer, refused, answered}
 use Rattle.leaves.specs.Leaves.{the_leaves}
 use Rattle.slots.specs.Slots.{way_number}
@@ -18,19 +18,15 @@ leaf_digit leaves l = leaves / 2 ^ l % 2
 unfoldable pub leaf_digits : ℕ → List ℕ
 leaf_digits leaves = map (leaf_digit leaves) the_leaves
 
--- "`refused N: ` and document 01's words for the number"
-abbrev pub refused_line : ℕ → SummaryLine
-refused_line n = record { refusal = n; form = 0; numbers = replicate 17 0 }
-
 -- "Behind them stand the direction of those bookings, or `none` where there are none, and their number N": `up` is line 0, `down` line 1, `none` line 2
 unfoldable pub glance_line : Glance → SummaryLine
-glance_line g = record { refusal = 0; form = way_number g.way; numbers = leaf_digits g.leaves ++ (g.count ∷ []) }
+glance_line g = record { form = way_number g.way; numbers = leaf_digits g.leaves ++ (g.count ∷ []) }
 
 -- "The refusals are 5, 12, 13 and 14": one of them, or the line
-unfoldable pub summary_reply : Answer Glance → SummaryLine
-summary_reply (refused n) = refused_line n
-summary_reply (answered g) = glance_line g
+unfoldable pub summary_reply : Answer Glance → Answer SummaryLine
+summary_reply (refused n) = refused n
+summary_reply (answered g) = answered (glance_line g)
 
 -- "`summary SEAT SLOT`"
-unfoldable pub summary_asked : Values → Book → SummaryLine
+unfoldable pub summary_asked : Values → Book → Answer SummaryLine
 summary_asked v b = summary_reply (summary_answer b v.first v.second)

@@ -1,28 +1,31 @@
 // The call on who is on the air.
 ghost use Rattle.std.specs.Prelude.{◌≡◌};
-ghost use Rattle.hearing.specs.Calls.{said_hear};
+ghost use Rattle.refusals.specs.Refusals.{said_as};
+ghost use Rattle.hearing.specs.Calls.{heard_meant};
 ghost use Rattle.lesson_replies.specs.Replies.{hear_asked};
 
 use crate::say;
-use hearing::HearAnswer;
+use hearing::Heard;
 use lesson_words::numbers::Values;
-use printing::Outputs;
+use printing::{Lines, Outputs};
+use refusals::Refusal;
+use std::fmt::Write;
 
 // `hear CELL TYPE COUNT SAMPLE ..`
-fn who(v: Values, row: &[f32]) -> HearAnswer
-    ensures { said_hear result ≡ hear_asked v row.now }
+#[tactic(auto, unfolding(crate::specs::Replies::hear_asked))]
+fn who(v: Values, row: &[f32]) -> Result<Heard, Refusal>
+    ensures { said_as heard_meant result ≡ hear_asked v row.now }
 {
     hearing::hear(v.first, v.second, v.third, row)
 }
 
-pub fn hear(rt: &impl Outputs, out: &mut [u8; 4096], at: usize, v: Values, row: &[f32]) -> usize {
+pub fn hear(out: &mut Lines<'_, impl Outputs>, v: Values, row: &[f32]) {
     match who(v, row) {
-        HearAnswer::Refused(n) => say::refused(rt, out, at, n),
-        HearAnswer::Nobody => printing::word(rt, out, at, b"nobody\n"),
-        HearAnswer::User(k, re, im) => {
-            let n = say::named(rt, out, at, b"user #", k);
-            let sums = [re, im];
-            say::wholes(rt, out, n, b"", &sums, 2)
+        Err(refusal) => say::refused(out, refusal),
+        Ok(Heard::Nobody) => out.word(b"nobody\n"),
+        Ok(Heard::User(k, re, im)) => {
+            let _ = write!(out, "user {k}");
+            say::wholes(out, b"", &[re, im], 2);
         }
     }
 }

@@ -1,18 +1,18 @@
 // The call on beacon timeslots.
 ghost use Rattle.std.specs.Prelude.{◌≡◌};
+ghost use Rattle.refusals.specs.Refusals.{said};
 ghost use Rattle.lesson_replies.specs.Replies.{beacon_asked};
 
-use crate::replies;
 use crate::replies::Reply;
-use beacons::BeaconAnswer;
+use beacons::Beacons;
 use lesson_words::numbers::Values;
+use refusals::Refusal;
 
-pub fn beacon(v: Values) -> Reply
-    ensures { result ≡ beacon_asked v }
+pub fn beacon(v: Values) -> Result<Reply, Refusal>
+    ensures { said result ≡ beacon_asked v }
 {
-    match beacons::beacon(v.first, v.second) {
-        BeaconAnswer::Refused(n) => replies::refused(n),
-        BeaconAnswer::One(t) => replies::one(replies::BEACON, t),
-        BeaconAnswer::Two(t, u) => replies::two(replies::BEACONS, t, u),
-    }
+    Ok(match beacons::beacon(v.first, v.second)? {
+        Beacons::One(t) => Reply::Beacon(t),
+        Beacons::Two(t, u) => Reply::Beacons(t, u),
+    })
 }

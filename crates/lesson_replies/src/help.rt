@@ -1,11 +1,8 @@
 // `help`: the calls and their replies.
-use printing::Outputs;
+use printing::{Lines, Outputs};
 
-pub fn help(rt: &impl Outputs, out: &mut [u8; 4096], at: usize) -> usize {
-    printing::word(
-        rt,
-        out,
-        at,
+pub fn help(out: &mut Lines<'_, impl Outputs>) {
+    out.word(
         b"open SEAT CELL CASE K LONG SHORT        ok\n\
             book SEAT SLOT up|down TYPE FACTOR INDEX USER TFCI TPC\n\
             \x20                                       ok\n\
@@ -32,5 +29,5 @@ pub fn help(rt: &impl Outputs, out: &mut [u8; 4096], at: usize) -> usize {
             In one timeslot a seat books one direction, type 2 apart from types 1 and 3, and no leaf of a code twice.\n\
             A call that is refused says 'refused N:' and why. SETTINGS and BITS are words of the digits 0 and 1. '#' starts a comment.\n\
             A SAMPLE is a whole number from -2047 to 2047: RE then IM of each chip, 1024 of them, for type 2 512; further ones are not read.\n",
-    )
+    );
 }

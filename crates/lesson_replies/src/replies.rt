@@ -1,108 +1,67 @@
-// Replies that are numbers: a refusal, or one of the forms below with its numbers. Which form a call's answer takes, and with which numbers, is promised; how `said`
-// writes it is tested.
-ghost use Rattle.std.specs.Prelude.{◌≡◌};
-ghost use Rattle.lesson_replies.specs.Replies.{refused_reply, line_reply};
-
+// Replies in numbers. Which reply a call's answer takes, and with which numbers, is promised; how it is written is tested.
 use crate::say;
-use printing::Outputs;
+use paging::IndicatorPlace;
+use printing::{Lines, Outputs};
+use refusals::Refusal;
+use std::fmt;
+use std::fmt::Write;
 
-#[derive(Clone, Copy)]
-pub struct Reply {
-    pub refusal: u32,
-    pub form: u32,
-    pub a: u32,
-    pub b: u32,
-    pub c: u32,
-    pub d: u32,
-    pub e: u32,
-    pub f: u32,
+#[derive(Clone, Copy, Debug, PartialEq, Eq)]
+pub enum Reply {
+    Chip(u32),
+    Beacon(u32),
+    Beacons(u32, u32),
+    Indicator(IndicatorPlace),
+    Reserved,
+    Owned(u32),
+    Data1(u32),
+    Tfci1(u32),
+    Midamble(u32),
+    Tpc(u32),
+    Tfci2(u32),
+    Data2(u32),
+    Guard(u32),
 }
 
-pub const CHIP: u32 = 0;
+// The last of `length` bits from `first`.
+fn last(first: u32, length: u32) -> u32 {
+    first.wrapping_add(length).wrapping_sub(1)
+}
 
-pub const BEACON: u32 = 1;
-
-pub const BEACONS: u32 = 2;
-
-pub const INDICATOR: u32 = 3;
-
-pub const RESERVED: u32 = 4;
-
-pub const OWNED: u32 = 5;
-
-pub const DATA1: u32 = 6;
-
-pub const TFCI1: u32 = 7;
-
-pub const MIDAMBLE: u32 = 8;
-
-pub const TPC: u32 = 9;
-
-pub const TFCI2: u32 = 10;
-
-pub const DATA2: u32 = 11;
-
-pub const GUARD: u32 = 12;
-
-pub fn refused(refusal: u32) -> Reply
-    ensures { result ≡ refused_reply refusal }
-{
-    Reply {
-        refusal,
-        form: 0,
-        a: 0,
-        b: 0,
-        c: 0,
-        d: 0,
-        e: 0,
-        f: 0,
+impl fmt::Display for Reply {
+    fn fmt<W: fmt::Write>(&self, f: &mut fmt::Formatter<W>) -> fmt::Result {
+        match *self {
+            Reply::Chip(p) => write!(f, "chip {p}"),
+            Reply::Beacon(t) => write!(f, "beacon {t}"),
+            Reply::Beacons(t, u) => write!(f, "beacon {t} {u}"),
+            Reply::Indicator(place) => {
+                let first = last(place.first, place.length);
+                let second = last(place.second, place.length);
+                write!(
+                    f,
+                    "frame {} q {} bits {}..{first} {}..{second}",
+                    place.frame, place.q, place.first, place.second
+                )
+            }
+            Reply::Reserved => write!(f, "reserved"),
+            Reply::Owned(q) => write!(f, "q {q}"),
+            Reply::Data1(n) => write!(f, "data1 {n}"),
+            Reply::Tfci1(n) => write!(f, "tfci1 {n}"),
+            Reply::Midamble(n) => write!(f, "midamble {n}"),
+            Reply::Tpc(n) => write!(f, "tpc {n}"),
+            Reply::Tfci2(n) => write!(f, "tfci2 {n}"),
+            Reply::Data2(n) => write!(f, "data2 {n}"),
+            Reply::Guard(n) => write!(f, "guard {n}"),
+        }
     }
 }
 
-pub fn two(form: u32, a: u32, b: u32) -> Reply
-    ensures { result ≡ line_reply form a b }
-{
-    Reply {
-        refusal: 0,
-        form,
-        a,
-        b,
-        c: 0,
-        d: 0,
-        e: 0,
-        f: 0,
+// A reply as a line, or a refusal.
+pub fn said(out: &mut Lines<'_, impl Outputs>, answer: Result<Reply, Refusal>) {
+    match answer {
+        Err(refusal) => say::refused(out, refusal),
+        Ok(reply) => {
+            let _ = writeln!(out, "{reply}");
+        }
     }
-}
-
-pub fn one(form: u32, a: u32) -> Reply
-    ensures { result ≡ line_reply form a 0 }
-{
-    two(form, a, 0)
-}
-
-pub fn said(rt: &impl Outputs, out: &mut [u8; 4096], at: usize, r: Reply) -> usize {
-    if r.refusal != 0 {
-        return say::refused(rt, out, at, r.refusal);
-    }
-    let numbers = [r.a, r.b, r.c, r.d, r.e, r.f];
-    printing::form(
-        rt,
-        out,
-        at,
-        b"chip #\n\
-            beacon #\n\
-            beacon # #\n\
-            frame # q # bits #..# #..#\n\
-            reserved\n\
-            q #\n\
-            data1 #\n\
-            tfci1 #\n\
-            midamble #\n\
-            tpc #\n\
-            tfci2 #\n\
-            data2 #\n\
-            guard #\n",
-        r.form,
-        &numbers,
-    )
 }

@@ -1,166 +1,90 @@
-// Replies. Each call puts one whole line into the buffer of output and gives back the place behind it.
-use printing::Outputs;
-use refusal_words::WordsAnswer;
-
-// The words of a refusal.
-fn words(rt: &impl Outputs, out: &mut [u8; 4096], at: usize, refusal: u32) -> usize {
-    let mut text = [0u8; 255];
-    match refusal_words::words(refusal, &mut text) {
-        WordsAnswer::Refused(_) => at,
-        WordsAnswer::Written(n) => printing::row(rt, out, at, &text, n, 0),
-    }
-}
+// Replies. Each call puts one whole line into the buffer of output.
+use printing::{Lines, Outputs};
+use refusals::Refusal;
+use std::fmt::Write;
 
 // `refused N: ` and the words of the number.
-pub fn refused(rt: &impl Outputs, out: &mut [u8; 4096], at: usize, refusal: u32) -> usize {
-    let n = named(rt, out, at, b"refused #: ", refusal);
-    let n = words(rt, out, n, refusal);
-    printing::put(rt, out, n, b'\n')
+pub fn refused(out: &mut Lines<'_, impl Outputs>, refusal: Refusal) {
+    let number = refusal.number();
+    let _ = write!(out, "refused {number}: ");
+    let mut text = [0; 255];
+    if let Ok(n) = refusal_words::words(number, &mut text) {
+        out.row(&text, n, 0);
+    }
+    out.put(b'\n');
 }
 
 // `ok`, or a refusal.
-pub fn done(rt: &impl Outputs, out: &mut [u8; 4096], at: usize, refusal: u32) -> usize {
-    if refusal == 0 {
-        return printing::word(rt, out, at, b"ok\n");
+pub fn done(out: &mut Lines<'_, impl Outputs>, answer: Result<(), Refusal>) {
+    match answer {
+        Err(refusal) => refused(out, refusal),
+        Ok(()) => out.word(b"ok\n"),
     }
-    refused(rt, out, at, refusal)
 }
 
 // What somebody who types sees before each line.
-pub fn prompt(rt: &impl Outputs, out: &mut [u8; 4096], at: usize, typed: bool) -> usize {
+pub fn prompt(out: &mut Lines<'_, impl Outputs>, typed: bool) {
     if typed {
-        return printing::word(rt, out, at, b"> ");
+        out.word(b"> ");
     }
-    at
 }
 
 // A line of a lesson with its number, as it stands before its reply.
-pub fn echoed(
-    rt: &impl Outputs,
-    out: &mut [u8; 4096],
-    at: usize,
-    number: u64,
-    line: &[u8],
-) -> usize {
-    let n = printing::number(rt, out, at, number);
-    let n = printing::word(rt, out, n, b"> ");
-    let n = printing::word(rt, out, n, line);
-    printing::put(rt, out, n, b'\n')
-}
-
-// A form with one number.
-pub fn named(rt: &impl Outputs, out: &mut [u8; 4096], at: usize, text: &[u8], value: u32) -> usize {
-    let numbers = [value];
-    printing::form(rt, out, at, text, 0, &numbers)
+pub fn echoed(out: &mut Lines<'_, impl Outputs>, number: u64, line: &[u8]) {
+    let _ = write!(out, "{number}> ");
+    out.word(line);
+    out.put(b'\n');
 }
 
 // A word and the first values of a row as digits with no blanks between.
-pub fn digits(
-    rt: &impl Outputs,
-    out: &mut [u8; 4096],
-    at: usize,
-    word: &[u8],
-    values: &[u8],
-    count: u32,
-) -> usize {
-    let n = printing::word(rt, out, at, word);
-    let n = printing::row(rt, out, n, values, count, b'0');
-    printing::put(rt, out, n, b'\n')
+pub fn digits(out: &mut Lines<'_, impl Outputs>, word: &[u8], values: &[u8], count: u32) {
+    out.word(word);
+    out.row(values, count, b'0');
+    out.put(b'\n');
 }
 
 // `block`, how many values, and behind a blank the values as digits; nothing behind 0.
-pub fn counted(
-    rt: &impl Outputs,
-    out: &mut [u8; 4096],
-    at: usize,
-    values: &[u8],
-    count: u32,
-) -> usize {
+pub fn counted(out: &mut Lines<'_, impl Outputs>, values: &[u8], count: u32) {
     if count == 0 {
-        return printing::word(rt, out, at, b"block 0\n");
+        out.word(b"block 0\n");
+        return;
     }
-    let n = named(rt, out, at, b"block # ", count);
-    digits(rt, out, n, b"", values, count)
+    let _ = write!(out, "block {count} ");
+    digits(out, b"", values, count);
 }
 
 // A word and the first floats of a row as whole numbers, parted by blanks.
-pub fn wholes(
-    rt: &impl Outputs,
-    out: &mut [u8; 4096],
-    at: usize,
-    word: &[u8],
-    row: &[f32],
-    count: u32,
-) -> usize {
-    let n = printing::word(rt, out, at, word);
-    let n = printing::wholes(rt, out, n, row, count);
-    printing::put(rt, out, n, b'\n')
+pub fn wholes(out: &mut Lines<'_, impl Outputs>, word: &[u8], row: &[f32], count: u32) {
+    out.word(word);
+    out.wholes(row, count);
+    out.put(b'\n');
 }
 
 // What is said of a line that is no call: `line N` and a text. `./bench` hears of it.
-pub fn no_call(
-    rt: &impl Outputs,
-    out: &mut [u8; 4096],
-    at: usize,
-    number: u64,
-    text: &[u8],
-) -> usize {
-    printing::complain(rt);
-    let n = printing::word(rt, out, at, b"line ");
-    let n = printing::number(rt, out, n, number);
-    printing::word(rt, out, n, text)
+pub fn no_call(out: &mut Lines<'_, impl Outputs>, number: u64, text: &[u8]) {
+    out.complain();
+    let _ = write!(out, "line {number}");
+    out.word(text);
 }
 
 // Whether the first two bytes are a byte order mark of UTF-16.
 fn sixteen(word: &[u8]) -> bool {
-    if word.len() < 2 {
-        return false;
-    }
-    let first = word[0];
-    let second = word[1];
-    ((first == 255) & (second == 254)) | ((first == 254) & (second == 255))
+    word.starts_with(b"\xff\xfe") | word.starts_with(b"\xfe\xff")
 }
 
 // A line whose first word is no call's.
-pub fn unknown(
-    rt: &impl Outputs,
-    out: &mut [u8; 4096],
-    at: usize,
-    number: u64,
-    word: &[u8],
-) -> usize {
+pub fn unknown(out: &mut Lines<'_, impl Outputs>, number: u64, word: &[u8]) {
     if (number == 1) & sixteen(word) {
-        return no_call(
-            rt,
-            out,
-            at,
-            number,
-            b": this is UTF-16; save the lesson as UTF-8\n",
-        );
+        no_call(out, number, b": this is UTF-16; save the lesson as UTF-8\n");
+    } else {
+        no_call(out, number, b": unknown word; 'help' lists the calls\n");
     }
-    no_call(
-        rt,
-        out,
-        at,
-        number,
-        b": unknown word; 'help' lists the calls\n",
-    )
 }
 
 // A line whose words are not those of its call, by the call's number: what was expected.
-pub fn expected(
-    rt: &impl Outputs,
-    out: &mut [u8; 4096],
-    at: usize,
-    number: u64,
-    call: u32,
-) -> usize {
-    let n = no_call(rt, out, at, number, b": expected: ");
-    let numbers = [0u32; 1];
-    printing::form(
-        rt,
-        out,
-        n,
+pub fn expected(out: &mut Lines<'_, impl Outputs>, number: u64, call: u32) {
+    no_call(out, number, b": expected: ");
+    out.form(
         b"open SEAT CELL CASE K LONG SHORT\n\
             book SEAT SLOT up|down TYPE FACTOR INDEX USER TFCI TPC\n\
             cancel SEAT SLOT FACTOR INDEX\n\
@@ -182,6 +106,6 @@ pub fn expected(
             owner TYPE L BIT\n\
             help\n",
         call,
-        &numbers,
-    )
+        &[],
+    );
 }

@@ -1,31 +1,22 @@
 // The call on a seat's free codes.
 ghost use Rattle.std.specs.Prelude.{◌≡◌, ◌<◌, [], ◌∷◌, ◌++◌};
+ghost use Rattle.refusals.specs.Refusals.{said};
 ghost use Rattle.slots.specs.Slots.{way_number};
-ghost use Rattle.lesson_replies.specs.Summary.{leaf_digit, leaf_digits, refused_line, glance_line, summary_asked};
+ghost use Rattle.lesson_replies.specs.Summary.{leaf_digit, leaf_digits, glance_line, summary_asked};
 
 use crate::say;
 use classbook::Book;
+use conditions::Direction;
 use lesson_words::numbers::Values;
-use printing::Outputs;
-use slots::Way;
-use summaries::{Glance, SummaryReply};
+use printing::{Lines, Outputs};
+use refusals::Refusal;
+use summaries::Glance;
 
-// A reply: a refusal, or a line of the form in `summary` with its numbers.
-#[derive(Clone, Copy)]
+// A line of the form in `summary`, with its numbers.
+#[derive(Clone, Copy, Debug, PartialEq, Eq)]
 pub struct SummaryLine {
-    pub refusal: u32,
     pub form: u32,
     pub numbers: [u32; 17],
-}
-
-fn refused(refusal: u32) -> SummaryLine
-    ensures { result ≡ refused_line refusal }
-{
-    SummaryLine {
-        refusal,
-        form: 0,
-        numbers: [0u32; 17],
-    }
 }
 
 // The digit of a leaf.
@@ -33,7 +24,7 @@ fn digit(leaves: u16, leaf: u32) -> u32
     requires { leaf < 16 }
     ensures { result ≡ leaf_digit leaves leaf }
 {
-    (leaves as u32 >> leaf) % 2
+    (u32::from(leaves) >> leaf) % 2
 }
 
 // The digits of all leaves, leaf 0 first, and behind them how many bookings there are.
@@ -48,51 +39,43 @@ fn numbers_of(leaves: u16, count: u32) -> [u32; 17]
 }
 
 // The line of the form in `summary`.
-fn turn(w: Way) -> u32
+#[tactic(auto, unfolding(slots::specs::Slots::way_number))]
+fn turn(w: Option<Direction>) -> u32
     ensures { result ≡ way_number w }
 {
     match w {
-        Way::Up => 0,
-        Way::Down => 1,
-        Way::Neither => 2,
+        Some(Direction::Up) => 0,
+        Some(Direction::Down) => 1,
+        None => 2,
     }
 }
 
 fn glanced(g: Glance) -> SummaryLine
     ensures { result ≡ glance_line g }
 {
-    let w = g.way;
     SummaryLine {
-        refusal: 0,
-        form: turn(w),
-        numbers: numbers_of(g.leaves, g.count as u32),
+        form: turn(g.way),
+        numbers: numbers_of(g.leaves, u32::from(g.count)),
     }
 }
 
 // `summary SEAT SLOT`
-fn summed(v: Values, b: Book) -> SummaryLine
-    ensures { result ≡ summary_asked v b }
+fn summed(v: Values, b: &Book) -> Result<SummaryLine, Refusal>
+    ensures { said result ≡ summary_asked v b.now }
 {
-    match summaries::summary(b, v.first, v.second) {
-        SummaryReply::Refused(n) => refused(n),
-        SummaryReply::Summed(g) => glanced(g),
-    }
+    let g = summaries::summary(b, v.first, v.second)?;
+    Ok(glanced(g))
 }
 
-pub fn summary(rt: &impl Outputs, out: &mut [u8; 4096], at: usize, v: Values, b: Book) -> usize {
-    let r = summed(v, b);
-    if r.refusal != 0 {
-        return say::refused(rt, out, at, r.refusal);
-    }
-    let numbers = r.numbers;
-    printing::form(
-        rt,
-        out,
-        at,
-        b"summary ################ up #\n\
+pub fn summary(out: &mut Lines<'_, impl Outputs>, v: Values, b: &Book) {
+    match summed(v, b) {
+        Err(refusal) => say::refused(out, refusal),
+        Ok(line) => out.form(
+            b"summary ################ up #\n\
             summary ################ down #\n\
             summary ################ none #\n",
-        r.form,
-        &numbers,
-    )
+            line.form,
+            &line.numbers,
+        ),
+    }
 }

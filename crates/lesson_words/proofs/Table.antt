@@ -70,11 +70,11 @@ module _ (name table : List ℕ) (count : ℕ) where
   pub kinds_starts : kinds_in (count - 0) name table ≡ kinds_in count name table
   kinds_starts = ap (λ (n : ℕ). kinds_in n name table) z
 
-  module _ (at i : ℕ) (h : count ≤ i) where
+  module _ (at i : ℕ) (h : count ≤ i) (end : i ≤ count) where
     over : count - i ≡ 0
     over = omega arith
 
-    pub number_none : (w : ℕ) → i + number_in (count - i) name (drop at table) ≡ w → i ≡ w
+    pub number_none : (w : ℕ) → i + number_in (count - i) name (drop at table) ≡ w → w ≡ count
     unfolding number_in
     number_none w inv = let e : number_in (count - i) name (drop at table) ≡ 0 = ap (λ (n : ℕ). number_in n name (drop at table)) over in omega (arith, e, inv)
 

@@ -1,40 +1,53 @@
--- Loops that look for the first byte that meets a test, and words. Cited by the proofs of `words`.
+-- Places of the first byte that meets a test, words, and texts that are compared. Cited by the proofs of `words`.
 -- Assumes nothing.
 use mathlib.Core.Path.{◌≡◌, refl, sym, ap, ◌∙◌}
 use mathlib.Core.Bool.{Bool, true, false, cond, ◌&&◌}
 use mathlib.Core.List.{List, [], ◌∷◌}
 use Prim.Native.Nat.{ℕ, suc, ◌+◌, ◌-◌, ◌<◌, ◌≤◌}
-use native.Mathlib.Numerals.{add-one}
 use native.Mathlib.Omega.{arith}
-use borrow.Author.Tests.{eq-eqb, ne_eqb}
 use lib.Dec.{eqb}
-use lib.ListN.{length, take, drop, get_or, drop_of_length-le}
-use lib.Seq.{drop-cons, drop-drop}
+use lib.ListN.{length, take, drop, length-drop}
+use lib.Seq.{drop-drop, take_all}
+use Rattle.std.proofs.Common.{Option, None, Some, MatchOption, unwrap_or}
+use Rattle.std.specs.List.{AllWithin, HoldsAt}
+use Rattle.std.specs.Str.{bytes_eq}
+use Rattle.std.proofs.lemmas.Option.{MatchOption-at_some}
+use Rattle.std.proofs.lemmas.Iterator.{index_from_first}
 use Rattle.lesson_words.specs.Words.{until, is_ink, is_blank_byte, ink_of, word_in, rest_of, same_text}
 use Rattle.lesson_words.specs.Inside.{behind_words}
 
-module _ (p : ℕ → Bool) (l : List ℕ) (i w : ℕ) where
-  -- the test holds here
-  pub found : i < length l → p (get_or l i 0) ≡ true → i + until p (drop i l) ≡ w → i ≡ w
-  unfolding until
-  found h e inv =
-      let z : until p (drop i l) ≡ 0 = ap (until p) (drop-cons l i 0 h) ∙ ap (λ (b : Bool). cond b 0 (suc (until p (drop (suc i) l)))) e in
-      omega (arith, z)
+-- l from place i on, as the slice there
+abbrev from_on : ℕ → List ℕ → List ℕ
+from_on i l = take (length l - i) (drop i l)
 
-  -- it does not, and the search goes on
-  pub passed : i < length l → p (get_or l i 0) ≡ false → i + until p (drop i l) ≡ w → i + 1 + until p (drop (i + 1) l) ≡ w
-  unfolding until
-  passed h e inv =
-      let z : until p (drop i l) ≡ suc (until p (drop (suc i) l)) = ap (until p) (drop-cons l i 0 h) ∙ ap (λ (b : Bool). cond b 0 (suc (until p (drop (suc i) l)))) e in
-      let y : until p (drop (i + 1) l) ≡ until p (drop (suc i) l) = ap (λ (k : ℕ). until p (drop k l)) (add-one i) in
-      omega (arith, z, y)
+module _ (p : ℕ → Bool) (l : List ℕ) (i : ℕ) (h : i ≤ length l) (r : Option ℕ)
+    (first : MatchOption r (AllWithin (λ x. p x ≡ false) (from_on i l) 0 (length (from_on i l)))
+    (λ n. (n < length (from_on i l)) × HoldsAt (λ x. p x ≡ true) (from_on i l) n × AllWithin (λ x. p x ≡ false) (from_on i l) 0 n)) where
+  whole : from_on i l ≡ drop i l
+  whole = take_all (length l - i) (drop i l) (omega (arith, length-drop i l))
 
-  -- nothing is left
-  pub nowhere : length l ≤ i → i + until p (drop i l) ≡ w → i ≡ w
+  passed : until p (from_on i l) ≡ unwrap_or r (length (from_on i l))
   unfolding until
-  nowhere h inv =
-      let z : until p (drop i l) ≡ 0 = ap (until p) (drop_of_length-le l h) in
-      omega (arith, z)
+  passed =
+      index_from_first (until p) (λ x. p x ≡ true) (λ x. p x ≡ false) refl (λ x m e. ap (λ (b : Bool). cond b 0 (suc (until p m))) e)
+      (λ x m e. let s : suc (until p m) ≡ until p m + 1 = omega arith in ap (λ (b : Bool). cond b 0 (suc (until p m))) e ∙ s) (from_on i l) r first
+
+  -- where r is k bytes on, or none
+  at : (k : ℕ) → unwrap_or r (length (from_on i l)) ≡ k → until p (drop i l) ≡ k
+  at k e = ap (until p) (sym whole) ∙ passed ∙ e
+
+  -- the test holds of a byte
+  pub found : (n : ℕ) → r ≡ Some n → (i + n ≤ length l) × (i + n ≡ i + until p (drop i l))
+  found n e =
+      let w = MatchOption-at_some _ _ n e first in
+      let z : until p (drop i l) ≡ n = at n (ap (λ (o : Option ℕ). unwrap_or o (length (from_on i l))) e) in
+      (omega (arith, w.0, ap length whole, length-drop i l), ap (λ (k : ℕ). i + k) (sym z))
+
+  -- it holds of none
+  pub nowhere : r ≡ None → (length l ≤ length l) × (length l ≡ i + until p (drop i l))
+  nowhere e =
+      let z : until p (drop i l) ≡ length (from_on i l) = at (length (from_on i l)) (ap (λ (o : Option ℕ). unwrap_or o (length (from_on i l))) e) in
+      (omega arith, omega (arith, z, ap length whole, length-drop i l))
 
 -- one word more is passed: from `at` to its first byte, and from there to the blank behind it
 module _ (l : List ℕ) (at from to : ℕ) (start : from ≡ at + until is_ink (drop at l)) (end : to ≡ from + until is_blank_byte (drop from l)) where
@@ -73,37 +86,10 @@ module _ (text w : List ℕ) (n i at : ℕ) (inv : behind_words (n - i) (drop at
   unfolding behind_words
   behind_end h = let k : n - i ≡ 0 = omega (arith, h) in sym (ap (λ (j : ℕ). behind_words j (drop at text)) k) ∙ inv
 
-and_false : (b : Bool) → (b && false) ≡ false
-and_false true = refl
-and_false false = refl
-
--- texts of two lengths differ
-pub same_length : (l m : List ℕ) → (length l ≡ length m → ⊥) → false ≡ same_text l m
+-- byte for byte, as `==` compares
+pub same_bytes : (l m : List ℕ) → bytes_eq l m ≡ same_text l m
 unfolding same_text
-same_length [] [] h = absurd (h refl)
-same_length [] (c ∷ m) h = refl
-same_length (b ∷ l) [] h = refl
-same_length (b ∷ l) (c ∷ m) h =
-    sym (ap (λ (t : Bool). eqb b c && t) (sym (same_length l m (λ e. h (ap suc e)))) ∙ and_false (eqb b c))
-
-module _ (l m : List ℕ) (i : ℕ) (w : Bool) (inv : same_text (drop i l) (drop i m) ≡ w) where
-  split : i < length l → i < length m → (eqb (get_or l i 0) (get_or m i 0) && same_text (drop (suc i) l) (drop (suc i) m)) ≡ w
-  unfolding same_text
-  split h k =
-      sym (ap (λ (t : List ℕ). same_text t (drop i m)) (drop-cons l i 0 h) ∙ ap (λ (t : List ℕ). same_text (get_or l i 0 ∷ drop (suc i) l) t) (drop-cons m i 0 k)) ∙ inv
-
-  -- two bytes are equal, and the comparison goes on
-  pub same_on : i < length l → i < length m → get_or l i 0 ≡ get_or m i 0 → same_text (drop (i + 1) l) (drop (i + 1) m) ≡ w
-  same_on h k e =
-      ap (λ (j : ℕ). same_text (drop j l) (drop j m)) (add-one i)
-      ∙ ap (λ (t : Bool). t && same_text (drop (suc i) l) (drop (suc i) m)) (sym (eq-eqb _ _ e)) ∙ split h k
-
-  -- two bytes differ
-  pub same_off : i < length l → i < length m → (get_or l i 0 ≡ get_or m i 0 → ⊥) → false ≡ w
-  same_off h k e = ap (λ (t : Bool). t && same_text (drop (suc i) l) (drop (suc i) m)) (sym (ne_eqb _ _ e)) ∙ split h k
-
-  -- nothing is left
-  pub same_end : length l ≤ i → length m ≤ i → true ≡ w
-  unfolding same_text
-  same_end h k =
-      sym (ap (λ (t : List ℕ). same_text t (drop i m)) (drop_of_length-le l h) ∙ ap (λ (t : List ℕ). same_text [] t) (drop_of_length-le m k)) ∙ inv
+same_bytes [] [] = refl
+same_bytes [] (c ∷ m) = refl
+same_bytes (b ∷ l) [] = refl
+same_bytes (b ∷ l) (c ∷ m) = ap (λ (t : Bool). eqb b c && t) (same_bytes l m)

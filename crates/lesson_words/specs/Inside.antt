@@ -1,11 +1,7 @@
--- What functions of `words` and `numbers` promise each other and the code of the crate `bench`: no definition of what a line does cites it.
+-- What functions of `words` promise the code of the crate `bench`: no definition of what a line does cites it.
 -- Assumes nothing.
-use Rattle.std.specs.Prelude.{◌⊎◌, ◌≡◌, cond, List, [], ℕ, zero, suc, ◌≤◌}
+use Rattle.std.specs.Prelude.{cond, List, [], ℕ, zero, suc}
 use Rattle.lesson_words.specs.Words.{word_in, rest_of, same_text}
-
--- equal, or both above 4294967295
-abbrev pub Near : ℕ → ℕ → Type 0
-Near a b = (a ≡ b) ⊎ ((4294967296 ≤ a) × (4294967296 ≤ b))
 
 -- what stands behind the first n words of a text
 unfoldable pub behind_words : ℕ → List ℕ → List ℕ

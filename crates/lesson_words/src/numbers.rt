@@ -1,121 +1,83 @@
 // What the words behind a call's name stand for: numbers, directions, and rows of the digits 0 and 1. A line's words are read once, by `read`.
-ghost use Rattle.std.specs.Prelude.{◌≡◌, ◌+◌, ◌-◌, ◌*◌, ◌≤◌, length, set};
-ghost use Rattle.lesson_words.specs.Numbers.{is_digit, numeral_of, turn_of, row_of, meant_by, fits, nine_of, values_of, direction_by};
-ghost use Rattle.lesson_words.specs.Inside.{Near};
+ghost use Rattle.std.specs.Prelude.{◌≡◌, true, false, ◌+◌, ◌-◌, ◌*◌, ◌≤◌, length, set, leb, MatchOption};
+ghost use Rattle.lesson_words.specs.Numbers.{is_digit, value_if, numeral_of, turn_of, row_of, meant_by, fits, nine_of, values_of, direction_by};
 
 use crate::words;
 use conditions::Direction;
 
-// Whether a word is what is expected, and its value.
-#[derive(Clone, Copy)]
-pub struct Meaning {
-    pub fit: bool,
-    pub value: u32,
-}
-
+#[tactic(auto, unfolding(crate::specs::Numbers::is_digit))]
 fn is_digit(b: u8) -> bool
     ensures { result ≡ is_digit b }
 {
     (b >= b'0') & (b <= b'9')
 }
 
-// A number with one digit more behind it; 4294967296 stands for all that are too large.
-fn grown(value: u64, digit: u8) -> u64
-    requires { (value ≤ 4294967296) × (48 ≤ digit) }
-    ensures { (result ≤ 4294967296) × Near result (value * 10 + (digit - 48)) }
+// A number with one digit more behind it, if it is not too large.
+#[tactic(auto, unfolding(crate::specs::Numbers::value_if))]
+fn grown(value: u32, digit: u8) -> Option<u32>
+    requires { 48 ≤ digit }
+    ensures { result ≡ value_if (leb (value * 10 + (digit - 48)) 4294967295) (value * 10 + (digit - 48)) }
 {
-    let v = value * 10 + (digit - 48) as u64;
-    if v > 4294967295 {
-        return 4294967296;
-    }
-    v
+    value.checked_mul(10)?.checked_add(u32::from(digit - b'0'))
 }
 
 // One or more of the digits 0 to 9, of at most 4294967295. Public for `samples`.
-pub fn number(word: &[u8]) -> Meaning
+pub fn number(word: &[u8]) -> Option<u32>
     ensures { result ≡ numeral_of word.now }
 {
-    if word.len() == 0 {
-        return Meaning {
-            fit: false,
-            value: 0,
-        };
+    if word.is_empty() {
+        return None;
     }
-    let mut value: u64 = 0;
-    let mut i = 0;
-    while i < word.len() {
-        let b = word[i];
+    let mut value = 0;
+    for &b in word {
         if !is_digit(b) {
-            return Meaning {
-                fit: false,
-                value: 0,
-            };
+            return None;
         }
-        value = grown(value, b);
-        i += 1;
+        value = grown(value, b)?;
     }
-    if value > 4294967295 {
-        return Meaning {
-            fit: false,
-            value: 0,
-        };
-    }
-    Meaning {
-        fit: true,
-        value: value as u32,
-    }
+    Some(value)
 }
 
-// One or more of the digits 0 and 1.
-fn row(word: &[u8]) -> Meaning
+// One or more of the digits 0 and 1: a row has no value, so 0 stands for it.
+fn row(word: &[u8]) -> Option<u32>
     ensures { result ≡ row_of word.now }
 {
-    let mut fit = word.len() != 0;
-    let mut i = 0;
-    while i < word.len() {
-        let b = word[i];
-        fit = fit & ((b == b'0') | (b == b'1'));
-        i += 1;
-    }
-    Meaning { fit, value: 0 }
+    let bits = word.iter().all(|&b| (b == b'0') | (b == b'1'));
+    (!word.is_empty() & bits).then_some(0)
 }
 
 // `up` or `down`.
-fn turn(word: &[u8]) -> Meaning
+fn turn(word: &[u8]) -> Option<u32>
     ensures { result ≡ turn_of word.now }
 {
-    if words::same(word, b"down") {
-        return Meaning {
-            fit: true,
-            value: 1,
-        };
+    if word == b"down".as_slice() {
+        Some(1)
+    } else if word == b"up".as_slice() {
+        Some(0)
+    } else {
+        None
     }
-    let fit = words::same(word, b"up");
-    Meaning { fit, value: 0 }
 }
 
 // Kinds of words: `n` a number, `d` a direction, and any other letter a row.
-fn meant(word: &[u8], kind: u8) -> Meaning
+#[tactic(auto, unfolding(crate::specs::Numbers::meant_by))]
+fn meant(word: &[u8], kind: u8) -> Option<u32>
     ensures { result ≡ meant_by kind word.now }
 {
-    if kind == b'n' {
-        return number(word);
+    match kind {
+        b'n' => number(word),
+        b'd' => turn(word),
+        _ => row(word),
     }
-    if kind == b'd' {
-        return turn(word);
-    }
-    row(word)
 }
 
 // A value into its place, if there is one.
-fn stored(values: [u32; 9], i: usize, value: u32) -> [u32; 9]
-    ensures { result ≡ set values i value }
+fn store(values: &mut [u32], i: usize, value: u32)
+    ensures { values.new ≡ set values.old i value }
 {
-    let mut v = values;
-    if i < 9 {
-        v[i] = value;
+    if i < values.len() {
+        values[i] = value;
     }
-    v
 }
 
 // What the words of a line stand for, in their order.
@@ -133,67 +95,63 @@ pub struct Values {
 }
 
 // Nine places by name.
-fn nine(v: [u32; 9]) -> Values
-    ensures { result ≡ nine_of v }
-{
-    Values {
-        first: v[0],
-        second: v[1],
-        third: v[2],
-        fourth: v[3],
-        fifth: v[4],
-        sixth: v[5],
-        seventh: v[6],
-        eighth: v[7],
-        ninth: v[8],
+impl From<[u32; 9]> for Values {
+    ghost from_gives = { λ v r. r ≡ nine_of v };
+
+    #[tactic(auto, unfolding(crate::specs::Numbers::nine_of))]
+    fn from(v: [u32; 9]) -> Values {
+        Values {
+            first: v[0],
+            second: v[1],
+            third: v[2],
+            fourth: v[3],
+            fifth: v[4],
+            sixth: v[5],
+            seventh: v[6],
+            eighth: v[7],
+            ninth: v[8],
+        }
     }
 }
 
-// The words of a line: whether they are those that a call wants, what each stands for, and where the last of them stands.
+// The words of a line, where they are those that a call wants: what each stands for, and where the last of them stands.
 #[derive(Clone, Copy)]
 pub struct Line {
-    pub fit: bool,
     pub values: Values,
     pub from: usize,
     pub to: usize,
 }
 
 // Reads the words behind a call's name, as many as the call wants and of the kinds that it wants.
-pub fn read(text: &[u8], kinds: &[u8]) -> Line
-    ensures { (result.fit ≡ fits kinds.now text.now) × (result.values ≡ values_of kinds.now text.now) × (result.from ≤ result.to) × (result.to ≤ length text.now) }
+pub fn read(text: &[u8], kinds: &[u8]) -> Option<Line>
+    ensures { MatchOption result (fits kinds.now text.now ≡ false) (λ line. (fits kinds.now text.now ≡ true) × (line.values ≡ values_of kinds.now text.now) × (line.from ≤ line.to) × (line.to ≤ length text.now)) }
 {
-    let mut fit = true;
-    let mut places = [0u32; 9];
+    let mut places = [0; 9];
     let mut from = 0;
     let mut to = 0;
-    let mut i = 0;
-    while i < kinds.len() {
+    for (i, &kind) in kinds.iter().enumerate() {
         let w = words::word(text, to);
         from = w.from;
         to = w.to;
-        let m = meant(&text[from..to], kinds[i]);
-        fit = fit & m.fit;
-        let p = stored(places, i, m.value);
-        places = p;
-        i += 1;
+        let value = meant(&text[from..to], kind)?;
+        store(&mut places, i, value);
     }
     let behind = words::word(text, to);
-    fit = fit & (behind.to - behind.from == 0);
-    let values = nine(places);
-    Line {
-        fit,
-        values,
-        from,
-        to,
+    if behind.to - behind.from != 0 {
+        return None;
     }
+    let values = Values::from(places);
+    Some(Line { values, from, to })
 }
 
 // A direction by its value.
+#[tactic(auto, unfolding(crate::specs::Numbers::direction_by, crate::specs::Numbers::direction_if))]
 pub fn direction(value: u32) -> Direction
     ensures { result ≡ direction_by value }
 {
     if value == 1 {
-        return Direction::Down;
+        Direction::Down
+    } else {
+        Direction::Up
     }
-    Direction::Up
 }

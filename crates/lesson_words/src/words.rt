@@ -1,7 +1,7 @@
 // Lines end in LF; words are what stands between blanks, up to a comment (docs/LESSONS.md, "Lines").
 // No call of document 01: public for the crate bench, which asks from a place within the text.
-ghost use Rattle.std.specs.Prelude.{◌≡◌, ◌+◌, ◌-◌, ◌≤◌, length, take, drop};
-ghost use Rattle.lesson_words.specs.Words.{is_byte, is_blank_byte, is_ink, until, word_in, rest_of, same_text};
+ghost use Rattle.std.specs.Prelude.{◌≡◌, ◌+◌, ◌-◌, ◌<◌, ◌≤◌, [], length, take, drop, IfNone, IfSome};
+ghost use Rattle.lesson_words.specs.Words.{is_byte, is_blank_byte, is_ink, until, word_in, rest_of};
 ghost use Rattle.lesson_words.specs.Inside.{number_in, kinds_in, behind_words};
 
 // The first place from `from` on that holds a byte, or the end. Public for the crate bench.
@@ -9,17 +9,14 @@ pub fn find(bytes: &[u8], from: usize, byte: u8) -> usize
     requires { from ≤ length bytes.now }
     ensures { (result ≤ length bytes.now) × (result ≡ from + until (is_byte byte) (drop from bytes.now)) }
 {
-    let mut i = from;
-    while i < bytes.len() {
-        if bytes[i] == byte {
-            return i;
-        }
-        i += 1;
+    match bytes[from..].iter().position(|&b| b == byte) {
+        Some(passed) => from + passed,
+        None => bytes.len(),
     }
-    i
 }
 
 // Space, tab and CR.
+#[tactic(auto, unfolding(crate::specs::Words::is_blank_byte))]
 fn is_blank(b: u8) -> bool
     ensures { result ≡ is_blank_byte b }
 {
@@ -31,14 +28,10 @@ fn word_start(text: &[u8], from: usize) -> usize
     requires { from ≤ length text.now }
     ensures { (result ≤ length text.now) × (result ≡ from + until is_ink (drop from text.now)) }
 {
-    let mut i = from;
-    while i < text.len() {
-        if !is_blank(text[i]) {
-            return i;
-        }
-        i += 1;
+    match text[from..].iter().position(|&b| !is_blank(b)) {
+        Some(blanks) => from + blanks,
+        None => text.len(),
     }
-    i
 }
 
 // The first place from `from` on that holds a blank, or the end.
@@ -46,14 +39,10 @@ fn word_end(text: &[u8], from: usize) -> usize
     requires { from ≤ length text.now }
     ensures { (result ≤ length text.now) × (result ≡ from + until is_blank_byte (drop from text.now)) }
 {
-    let mut i = from;
-    while i < text.len() {
-        if is_blank(text[i]) {
-            return i;
-        }
-        i += 1;
+    match text[from..].iter().position(|&b| is_blank(b)) {
+        Some(inked) => from + inked,
+        None => text.len(),
     }
-    i
 }
 
 // Where a word stands: its first place, and the place behind it.
@@ -78,33 +67,13 @@ pub fn behind(text: &[u8], count: usize) -> usize
     ensures { (result ≤ length text.now) × (drop result text.now ≡ behind_words count text.now) }
 {
     let mut at = 0;
-    let mut i = 0;
-    while i < count {
-        let w = word(text, at);
-        at = w.to;
-        i += 1;
+    for _ in 0..count {
+        at = word(text, at).to;
     }
     at
 }
 
-// Whether two texts are the same.
-pub fn same(text: &[u8], name: &[u8]) -> bool
-    ensures { result ≡ same_text text.now name.now }
-{
-    if text.len() != name.len() {
-        return false;
-    }
-    let mut i = 0;
-    while i < text.len() {
-        if text[i] != name[i] {
-            return false;
-        }
-        i += 1;
-    }
-    true
-}
-
-// A call's number in a table of calls, and where the kinds of its words stand there.
+// A call in a table of calls: its number, and where the kinds of its words stand there.
 #[derive(Clone, Copy)]
 pub struct Found {
     pub number: u32,
@@ -112,30 +81,23 @@ pub struct Found {
     pub to: usize,
 }
 
-// The call of this name in a table of so many: a name and the kinds of its words, and so on. The count for a name that it does not have.
-pub fn look_up(name: &[u8], table: &[u8], count: u32) -> Found
-    ensures { (result.number ≡ number_in count name.now table.now) × (result.from ≤ result.to) × (result.to ≤ length table.now) × (take (result.to - result.from) (drop result.from table.now) ≡ kinds_in count name.now table.now) }
+// The call of this name in a table of so many: a name and the kinds of its words, and so on.
+pub fn look_up(name: &[u8], table: &[u8], count: u32) -> Option<Found>
+    ensures none { IfNone result ((number_in count name.now table.now ≡ count) × (kinds_in count name.now table.now ≡ [])) }
+    ensures some { IfSome result (λ f. (f.number < count) × (f.number ≡ number_in count name.now table.now) × (f.from ≤ f.to) × (f.to ≤ length table.now) × (take (f.to - f.from) (drop f.from table.now) ≡ kinds_in count name.now table.now)) }
 {
-    let mut number = 0;
     let mut at = 0;
-    while number < count {
+    for number in 0..count {
         let a = word(table, at);
-        let from = a.from;
-        let to = a.to;
-        let kinds = word(table, to);
-        if same(name, &table[from..to]) {
-            return Found {
+        let kinds = word(table, a.to);
+        if name == &table[a.from..a.to] {
+            return Some(Found {
                 number,
                 from: kinds.from,
                 to: kinds.to,
-            };
+            });
         }
         at = kinds.to;
-        number += 1;
     }
-    Found {
-        number,
-        from: 0,
-        to: 0,
-    }
+    None
 }

@@ -8,8 +8,8 @@ use std::io::{Eprint, Write};
 fn words(text: &[u8]) -> usize
     ensures { result ≤ length text.now }
 {
-    for i in 0..text.len() {
-        if text[i] == 0 {
+    for (i, &b) in text.iter().enumerate() {
+        if b == 0 {
             return i;
         }
         let rest = &text[i..];

@@ -5,4 +5,4 @@ use Rattle.lesson_book.proofs.Read.{book_read}
 use Rattle.lesson_book.proofs.booked.Goals as goal
 
 pub returns : goal.returns
-returns c = c.book_code.ensures ∙ book_read _ _ _ c.request-x.ensures
+returns c = c.book_code.ensures ∙ book_read _ _ _ c.request.ensures

@@ -4,8 +4,8 @@ use Rattle.std.proofs.Common.{refl}
 use Rattle.bench.proofs.Meaning.{tabled_none, tabled_one}
 use Rattle.bench.proofs.calls.tabled.Goals as goal
 
-pub returns-then-found-eq20 : goal.returns-then-found-eq20
-returns-then-found-eq20 g c = tabled_none _ _ _ _ _ _ c.look_up-found.ensures.0 c.if-found-eq20.true refl
+pub returns-in-None : goal.returns-in-None
+returns-in-None g c = tabled_none _ _ _ _ _ c.in-None.ensures.none.0 refl
 
-pub returns : goal.returns
-returns g c = tabled_one _ _ _ _ _ _ c.look_up-found.ensures.0 _ c.look_up-found.ensures.3 c.worded.ensures
+pub returns-in-Some : goal.returns-in-Some
+returns-in-Some g c = tabled_one _ _ _ _ _ _ _ c.in-Some.ensures.some.1 c.in-Some.ensures.some.4 c.worded.ensures

@@ -7,5 +7,5 @@ use Rattle.bench.proofs.lines.reply.Goals as goal
 pub returns-then-held-line : goal.returns-then-held-line
 returns-then-held-line g c = gathered_whole _ _ _ _ c.if-held-line.true c.answer.ensures
 
-pub returns : goal.returns
-returns g c = gathered_long _ _ _ _ c.if-held-line.false refl
+pub returns-else-held-line : goal.returns-else-held-line
+returns-else-held-line g c = gathered_long _ _ _ _ c.if-held-line.false refl

@@ -1,14 +1,15 @@
--- `lesson_replies::summary_calls::summed` meets its promise, case by case.
+-- `lesson_replies::summary_calls::summed` meets its promise: a glance, as a line.
 -- Assumes nothing.
-use Rattle.summaries.specs.Summaries.{said_summary}
+use Rattle.std.proofs.Common.{ap, ◌∙◌}
+use Rattle.refusals.specs.Refusals.{answered}
 use Rattle.lesson_replies.specs.Summary.{summary_reply, summary_asked}
-use Rattle.lesson_replies.proofs.Replied.{replied}
+use Rattle.lesson_replies.proofs.Replied.{passed_on}
 use Rattle.lesson_replies.proofs.summary_calls.summed.Goals as goal
 
-pub returns-in-Refused : goal.returns-in-Refused
-unfolding said_summary summary_reply summary_asked
-returns-in-Refused c = replied summary_reply said_summary c.refused.ensures c.in-Refused.is c.summary.ensures
+pub returns-in_err-g : goal.returns-in_err-g
+unfolding summary_reply summary_asked
+returns-in_err-g c = passed_on _ _ c.from_residual.ensures.1 (ap summary_reply c.in_err-g.ensures)
 
-pub returns-in-Summed : goal.returns-in-Summed
-unfolding said_summary summary_reply summary_asked
-returns-in-Summed c = replied summary_reply said_summary c.glanced.ensures c.in-Summed.is c.summary.ensures
+pub returns : goal.returns
+unfolding summary_reply summary_asked
+returns c = ap answered c.glanced.ensures ∙ ap summary_reply c.in_ok-g.ensures

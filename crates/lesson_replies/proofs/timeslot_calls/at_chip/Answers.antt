@@ -1,40 +1,33 @@
--- `lesson_replies::timeslot_calls::at_chip` meets its promise, case by case.
+-- `lesson_replies::timeslot_calls::at_chip` meets its promise: the part that lies there, with the direction that the second word stands for.
 -- Assumes nothing.
 use Rattle.std.proofs.Common.{◌≡◌, ap, ◌∙◌}
 use Rattle.conditions.specs.declared.Direction.{Direction}
 use Rattle.lesson_words.specs.declared.numbers.Values.{Values}
 use Rattle.lesson_words.specs.Numbers.{direction_by}
-use Rattle.timeslots.specs.declared.AtAnswer.{AtAnswer}
-use Rattle.timeslots.specs.Calls.{said_at, at_answer}
-use Rattle.lesson_replies.specs.Replies.{part_line, at_reply, symbol_reply, at_asked}
-use Rattle.lesson_replies.proofs.Replied.{replied}
+use Rattle.refusals.specs.Refusals.{Answer, answered}
+use Rattle.timeslots.specs.Timeslots.{Part}
+use Rattle.timeslots.specs.Calls.{said_lying, at_answer}
+use Rattle.lesson_replies.specs.Replies.{part_reply, at_reply, symbol_reply, at_asked}
+use Rattle.lesson_replies.proofs.Replied.{made_of, passed_on}
 use Rattle.lesson_replies.proofs.timeslot_calls.at_chip.Goals as goal
 
--- the call was made with the direction that the second word stands for
-asked : (v : Values) (x : AtAnswer) (d : Direction) → said_at x ≡ at_answer v.first d v.third v.fourth v.fifth v.sixth → d ≡ direction_by v.second
-    → said_at x ≡ at_answer v.first (direction_by v.second) v.third v.fourth v.fifth v.sixth
-asked v x d p e = p ∙ ap (λ (y : Direction). at_answer v.first y v.third v.fourth v.fifth v.sixth) e
+-- the call was made with that direction
+by_word : (v : Values) (x : _) (d : Direction) → d ≡ direction_by v.second → x ≡ at_answer v.first d v.third v.fourth v.fifth v.sixth
+    → x ≡ at_answer v.first (direction_by v.second) v.third v.fourth v.fifth v.sixth
+by_word v x d e p = p ∙ ap (λ (y : Direction). at_answer v.first y v.third v.fourth v.fifth v.sixth) e
 
-pub returns-in-Refused : goal.returns-in-Refused
-unfolding said_at part_line at_reply symbol_reply at_asked
-returns-in-Refused c =
-    replied at_reply said_at c.refused.ensures c.in-Refused.is
-    (asked c.args.v c.at.result c.direction-d.result c.at.ensures c.direction-d.ensures)
+pub returns-in_err-n : goal.returns-in_err-n
+unfolding part_reply at_reply at_asked
+returns-in_err-n c = passed_on _ _ c.from_residual.ensures.1 (ap at_reply (by_word c.args.v _ _ c.direction-d.ensures c.in_err-n.ensures))
 
 pub returns-in-Midamble : goal.returns-in-Midamble
-unfolding said_at part_line at_reply symbol_reply at_asked
-returns-in-Midamble c =
-    replied at_reply said_at c.one.ensures c.in-Midamble.is
-    (asked c.args.v c.at.result c.direction-d.result c.at.ensures c.direction-d.ensures)
+unfolding part_reply at_reply at_asked
+returns-in-Midamble c = made_of at_reply said_lying c.in-Midamble.is (by_word c.args.v _ _ c.direction-d.ensures c.in_ok-n.ensures)
 
 pub returns-in-Guard : goal.returns-in-Guard
-unfolding said_at part_line at_reply symbol_reply at_asked
-returns-in-Guard c =
-    replied at_reply said_at c.one-in-Guard.ensures c.in-Guard.is
-    (asked c.args.v c.at.result c.direction-d.result c.at.ensures c.direction-d.ensures)
+unfolding part_reply at_reply at_asked
+returns-in-Guard c = made_of at_reply said_lying c.in-Guard.is (by_word c.args.v _ _ c.direction-d.ensures c.in_ok-n.ensures)
 
 pub returns-in-Symbol : goal.returns-in-Symbol
-unfolding said_at part_line at_reply symbol_reply at_asked
-returns-in-Symbol c =
-    replied at_reply said_at c.symbol.ensures c.in-Symbol.is
-    (asked c.args.v c.at.result c.direction-d.result c.at.ensures c.direction-d.ensures)
+unfolding part_reply at_reply symbol_reply at_asked
+returns-in-Symbol c = ap answered c.symbol.ensures ∙ made_of at_reply said_lying c.in-Symbol.is (by_word c.args.v _ _ c.direction-d.ensures c.in_ok-n.ensures)

@@ -1,16 +1,12 @@
 -- `lesson_words::numbers::read` meets its contract: what was read is stored, and the rest is to be read.
 -- Assumes nothing.
 use mathlib.Core.Path.{◌≡◌}
-use mathlib.Core.Bool.{◌&&◌}
-use Prim.Native.Nat.{◌-◌, ◌≤◌}
+use Prim.Native.Nat.{◌≤◌}
 use lib.ListN.{length, drop, replicate}
 use Rattle.lesson_words.specs.Numbers.{fits, values_from}
 use Rattle.lesson_words.proofs.numbers.read.Given as goal
 
 abbrev pub invariant-loop-i : goal.invariant-loop-i
 invariant-loop-i l =
-    (l.from ≤ l.to) × (l.to ≤ length l.text) × ((l.fit && fits (drop l.i l.kinds) (drop l.to l.text)) ≡ fits l.kinds l.text)
+    (l.from ≤ l.to) × (l.to ≤ length l.text) × (fits (drop l.i l.kinds) (drop l.to l.text) ≡ fits l.kinds l.text)
     × (values_from l.i (drop l.i l.kinds) (drop l.to l.text) l.places ≡ values_from 0 l.kinds l.text (replicate 9 0))
-
-abbrev pub decreases-loop-i : goal.decreases-loop-i
-decreases-loop-i l = length l.kinds - l.i

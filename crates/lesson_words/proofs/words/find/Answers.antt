@@ -1,24 +1,26 @@
 -- `lesson_words::words::find` meets its contract: nothing that was passed met the test.
 -- Assumes nothing.
-use mathlib.Core.Path.{refl}
-use borrow.Author.Tests.{eq-eqb, ne_eqb}
-use native.Mathlib.Omega.{arith}
+use mathlib.Core.Bool.{true, false}
+use mathlib.Core.Path.{◌≡◌}
+use borrow.Author.Tests.{tests}
+use Rattle.std.proofs.Common.{rules}
+use Rattle.std.proofs.lemmas.Iterator.{IsFirst-from_position, YieldsList-from_slice}
 use Rattle.lesson_words.specs.Words.{is_byte}
-use Rattle.lesson_words.proofs.Text.{found, passed, nowhere}
+use Rattle.lesson_words.proofs.Text.{found, nowhere}
 use Rattle.lesson_words.proofs.words.find.Goals as goal
 
-pub loop-i-init : goal.loop-i-init
-loop-i-init c = (omega arith, refl)
-
-pub returns-then-bytes-i : goal.returns-then-bytes-i
+pub returns-in-Some : goal.returns-in-Some
 unfolding is_byte
-returns-then-bytes-i c =
-    (omega arith, found _ _ _ _ c.loop-i-test.true (eq-eqb _ _ c.if-bytes-i.true) c.loop-i.invariant.1)
+returns-in-Some c =
+    let a = c.args in
+    found (is_byte a.byte) a.bytes.now a.from c.requires _
+    (IsFirst-from_position _ _ _ (λ x. is_byte a.byte x ≡ true) (λ x. is_byte a.byte x ≡ false) c.position.ensures.ran (YieldsList-from_slice _ c.iter.ensures.rest) (λ x q k. search (rules, tests)) (λ x q k. search (rules, tests)))
+    _ c.in-Some.is
 
-pub loop-i-preserved : goal.loop-i-preserved
+pub returns-in-None : goal.returns-in-None
 unfolding is_byte
-loop-i-preserved c =
-    (omega arith, passed _ _ _ _ c.loop-i-test.true (ne_eqb _ _ c.if-bytes-i.false) c.loop-i.invariant.1)
-
-pub returns : goal.returns
-returns c = (omega arith, nowhere _ _ _ _ c.loop-i-test.false c.loop-i.invariant.1)
+returns-in-None c =
+    let a = c.args in
+    nowhere (is_byte a.byte) a.bytes.now a.from c.requires _
+    (IsFirst-from_position _ _ _ (λ x. is_byte a.byte x ≡ true) (λ x. is_byte a.byte x ≡ false) c.position.ensures.ran (YieldsList-from_slice _ c.iter.ensures.rest) (λ x q k. search (rules, tests)) (λ x q k. search (rules, tests)))
+    c.in-None.is

@@ -8,8 +8,5 @@ use Rattle.lesson_words.proofs.words.look_up.Given as goal
 
 abbrev pub invariant-loop-number : goal.invariant-loop-number
 invariant-loop-number l =
-    (l.number ≤ l.count) × (l.at ≤ length l.table) × (l.number + number_in (l.count - l.number) l.name (drop l.at l.table) ≡ number_in l.count l.name l.table)
+    (l.at ≤ length l.table) × (l.number + number_in (l.count - l.number) l.name (drop l.at l.table) ≡ number_in l.count l.name l.table)
     × (kinds_in (l.count - l.number) l.name (drop l.at l.table) ≡ kinds_in l.count l.name l.table)
-
-abbrev pub decreases-loop-number : goal.decreases-loop-number
-decreases-loop-number l = l.count - l.number

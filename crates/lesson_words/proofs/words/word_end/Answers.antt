@@ -1,21 +1,26 @@
--- `lesson_words::words::word_end` meets its contract: nothing that was passed met the test.
+-- `lesson_words::words::word_end` meets its contract: nothing that was passed is a blank.
 -- Assumes nothing.
-use mathlib.Core.Path.{refl, sym, ◌∙◌}
-use native.Mathlib.Omega.{arith}
+use mathlib.Core.Bool.{true, false}
+use mathlib.Core.Path.{◌≡◌}
+use borrow.Author.Tests.{tests}
+use Rattle.std.proofs.Common.{rules}
+use Rattle.std.proofs.lemmas.Iterator.{IsFirst-from_position, YieldsList-from_slice}
 use Rattle.lesson_words.specs.Words.{is_blank_byte}
-use Rattle.lesson_words.proofs.Text.{found, passed, nowhere}
+use Rattle.lesson_words.proofs.Text.{found, nowhere}
 use Rattle.lesson_words.proofs.words.word_end.Goals as goal
 
-pub loop-i-init : goal.loop-i-init
-loop-i-init c = (omega arith, refl)
+pub returns-in-Some : goal.returns-in-Some
+unfolding is_blank_byte
+returns-in-Some c =
+    let a = c.args in
+    found is_blank_byte a.text.now a.from c.requires _
+    (IsFirst-from_position _ _ _ (λ x. is_blank_byte x ≡ true) (λ x. is_blank_byte x ≡ false) c.position.ensures.ran (YieldsList-from_slice _ c.iter.ensures.rest) (λ x q k. search (rules, tests)) (λ x q k. search (rules, tests)))
+    _ c.in-Some.is
 
-pub returns-then-is_blank : goal.returns-then-is_blank
-returns-then-is_blank c =
-    (omega arith, found is_blank_byte _ _ _ c.loop-i-test.true (sym c.is_blank.ensures ∙ c.if-is_blank.true) c.loop-i.invariant.1)
-
-pub loop-i-preserved : goal.loop-i-preserved
-loop-i-preserved c =
-    (omega arith, passed is_blank_byte _ _ _ c.loop-i-test.true (sym c.is_blank.ensures ∙ c.if-is_blank.false) c.loop-i.invariant.1)
-
-pub returns : goal.returns
-returns c = (omega arith, nowhere is_blank_byte _ _ _ c.loop-i-test.false c.loop-i.invariant.1)
+pub returns-in-None : goal.returns-in-None
+unfolding is_blank_byte
+returns-in-None c =
+    let a = c.args in
+    nowhere is_blank_byte a.text.now a.from c.requires _
+    (IsFirst-from_position _ _ _ (λ x. is_blank_byte x ≡ true) (λ x. is_blank_byte x ≡ false) c.position.ensures.ran (YieldsList-from_slice _ c.iter.ensures.rest) (λ x q k. search (rules, tests)) (λ x q k. search (rules, tests)))
+    c.in-None.is

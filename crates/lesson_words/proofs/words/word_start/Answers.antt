@@ -1,24 +1,26 @@
--- `lesson_words::words::word_start` meets its contract: nothing that was passed met the test.
+-- `lesson_words::words::word_start` meets its contract: all that was passed are blanks.
 -- Assumes nothing.
-use mathlib.Core.Path.{refl, sym, ap, ◌∙◌}
-use mathlib.Core.Bool.{not}
-use native.Mathlib.Omega.{arith}
+use mathlib.Core.Bool.{true, false}
+use mathlib.Core.Path.{◌≡◌}
+use borrow.Author.Tests.{tests}
+use Rattle.std.proofs.Common.{rules}
+use Rattle.std.proofs.lemmas.Iterator.{IsFirst-from_position, YieldsList-from_slice}
 use Rattle.lesson_words.specs.Words.{is_ink}
-use Rattle.lesson_words.proofs.Text.{found, passed, nowhere}
+use Rattle.lesson_words.proofs.Text.{found, nowhere}
 use Rattle.lesson_words.proofs.words.word_start.Goals as goal
 
-pub loop-i-init : goal.loop-i-init
-loop-i-init c = (omega arith, refl)
-
-pub returns-then-not-is_blank : goal.returns-then-not-is_blank
+pub returns-in-Some : goal.returns-in-Some
 unfolding is_ink
-returns-then-not-is_blank c =
-    (omega arith, found is_ink _ _ _ c.loop-i-test.true (ap not (sym c.is_blank.ensures) ∙ ap not c.if-not-is_blank.true) c.loop-i.invariant.1)
+returns-in-Some c =
+    let a = c.args in
+    found is_ink a.text.now a.from c.requires _
+    (IsFirst-from_position _ _ _ (λ x. is_ink x ≡ true) (λ x. is_ink x ≡ false) c.position.ensures.ran (YieldsList-from_slice _ c.iter.ensures.rest) (λ x q k. search (rules, tests)) (λ x q k. search (rules, tests)))
+    _ c.in-Some.is
 
-pub loop-i-preserved : goal.loop-i-preserved
+pub returns-in-None : goal.returns-in-None
 unfolding is_ink
-loop-i-preserved c =
-    (omega arith, passed is_ink _ _ _ c.loop-i-test.true (ap not (sym c.is_blank.ensures) ∙ ap not c.if-not-is_blank.false) c.loop-i.invariant.1)
-
-pub returns : goal.returns
-returns c = (omega arith, nowhere is_ink _ _ _ c.loop-i-test.false c.loop-i.invariant.1)
+returns-in-None c =
+    let a = c.args in
+    nowhere is_ink a.text.now a.from c.requires _
+    (IsFirst-from_position _ _ _ (λ x. is_ink x ≡ true) (λ x. is_ink x ≡ false) c.position.ensures.ran (YieldsList-from_slice _ c.iter.ensures.rest) (λ x q k. search (rules, tests)) (λ x q k. search (rules, tests)))
+    c.in-None.is

@@ -1,7 +1,7 @@
--- The two tests of `printing::size` are what cutting a fraction off asks.
+-- The two tests of `printing::Lines::size` are what cutting a fraction off asks.
 use Rattle.std.proofs.Common.{T, sym, subst}
 use lib.Ieee.{of_bits, neg}
-use Rattle.printing.proofs.size.Goals as goal
+use Rattle.printing.proofs.Lines.size.Goals as goal
 
 pub truncating_f32_to_u64-requires-clause-lower_bound :
     goal.truncating_f32_to_u64-requires-clause-lower_bound

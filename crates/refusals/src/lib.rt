@@ -2,7 +2,8 @@
 #![tactic(auto)]
 
 ghost use Rattle.std.specs.Prelude.{◌≡◌, OnOk, IfErr, IsTrue, IsFalse};
-ghost use Rattle.refusals.specs.Refusals.{number_of};
+ghost use Rattle.refusals.specs.Refusals.{number_of, refusal_in};
+ghost use Rattle.refusals.specs.Inside.{or_refused};
 
 // Why a call is refused, with the numbers of the table.
 #[derive(Clone, Copy, Debug, PartialEq, Eq)]
@@ -35,9 +36,11 @@ pub enum Refusal {
 
 impl Refusal {
     // Refuses where the condition holds. A call reads its table with one such line a row: `Refusal::Cell.when(cell > 127)?`.
+    #[tactic(auto, unfolding(crate::specs::Inside::or_refused))]
     pub fn when(self, holds: bool) -> Result<(), Refusal>
         ensures passed { OnOk result (IsFalse holds) }
         ensures refused { IfErr result (λ r. (r ≡ self) × IsTrue holds) }
+        ensures row { refusal_in result ≡ or_refused 0 (number_of self) holds }
     {
         if holds { Err(self) } else { Ok(()) }
     }

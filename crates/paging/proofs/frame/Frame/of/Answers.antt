@@ -7,12 +7,12 @@ use Rattle.paging.proofs.Passed.{fits, half_high}
 use Rattle.paging.proofs.frame.Frame.of.Goals as goal
 
 pub nonzero_div-result : goal.nonzero_div-result
-nonzero_div-result c = (fits _ _ (sym c.in_ok-check_pich.ensures)).low
+nonzero_div-result c = (fits _ _ (sym c.in_ok-check_pich.ensures.table)).low
 
 pub invariant_of-result : goal.invariant_of-result
 invariant_of-result c =
     record {
-      fits = rw c.half_of-half.ensures (fits _ _ (sym c.in_ok-check_pich.ensures));
+      fits = rw c.half_of-half.ensures (fits _ _ (sym c.in_ok-check_pich.ensures.table));
       few = div-le_self _ _;
       small = omega (arith, c.half_of-half.ensures, half_high c.args.burst);
     }

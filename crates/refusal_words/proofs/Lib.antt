@@ -1,2 +1,3 @@
 pub mod Listed
 pub mod Unique
+pub mod Putting

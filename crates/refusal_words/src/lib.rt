@@ -1,7 +1,7 @@
 // The words of each refusal, for a caller over C to show and for the program `bench`: document 01's, but for 3, 4, 16 and 22 to 24, whose words docs/LESSONS.md has.
 #![tactic(auto)]
 
-ghost use Rattle.std.specs.Prelude.{◌≡◌, ◌≤◌, length};
+ghost use Rattle.std.specs.Prelude.{◌≡◌, ◌++◌, ◌≤◌, length, drop};
 ghost use Rattle.refusals.specs.Refusals.{said, ◌leaving◌};
 ghost use Rattle.refusal_words.specs.Words.{words_of, words_outcome};
 
@@ -45,6 +45,16 @@ fn words_of(number: u32) -> &'static [u8]
     if i < WORDS.len() { WORDS[i] } else { b"" }
 }
 
+// A text into the first places of `out`, byte by byte: `copy_from_slice` would have the archive for C ask for `memmove`.
+fn put(text: &[u8], out: &mut [u8])
+    requires { length text.now ≤ length out.old }
+    ensures { out.new ≡ text.now ++ drop (length text.now) out.old }
+{
+    for (i, &byte) in text.iter().enumerate() {
+        out[i] = byte;
+    }
+}
+
 // The words of a refusal number; none for a number that is no refusal's. Refusal: 11.
 #[tactic(auto, using(refusals::proofs::Numbers::number_not_0), unfolding(crate::specs::Words::words_outcome, crate::specs::Words::putting, refusals::specs::Refusals::first_of, refusals::specs::Refusals::answer, refusals::specs::Refusals::after, refusals::specs::Refusals::number_of))]
 pub fn words(number: u32, out: &mut [u8]) -> Result<u32, Refusal>
@@ -52,6 +62,6 @@ pub fn words(number: u32, out: &mut [u8]) -> Result<u32, Refusal>
 {
     let text = words_of(number);
     Refusal::ShortMemory.when(out.len() < text.len())?;
-    out[..text.len()].copy_from_slice(text);
+    put(text, out);
     Ok(text.len() as u32)
 }

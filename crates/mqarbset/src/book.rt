@@ -124,7 +124,7 @@ pub fn mq_close_value(b: MqBook, seat: u32) -> MqBookAnswer
 pub fn mq_list_bytes(b: MqBook, seat: u32, out: &mut [u8]) -> MqAnswer
     ensures { (result, out.new) ≡ outcome_as_c (records_outcome (read_book b) seat out.old) }
 {
-    mqarbset_list::list(&Book::from(&b), seat, out).into()
+    mqarbset_list::list(&b, seat, out).into()
 }
 
 // Which codes of a timeslot a seat has free: the leaves that its bookings cover, leaf l being bit 2^l, their direction (0 up, 1 down, 2 none) and their number.

@@ -3,10 +3,13 @@
 
 ghost use Rattle.std.specs.Prelude.{◌≡◌, ◌++◌, ◌*◌, ◌≤◌, length, drop};
 ghost use Rattle.refusals.specs.Refusals.{said, ◌leaving◌};
+ghost use Rattle.classbook.specs.Calls.{said_list, list_answer};
+ghost use Rattle.mqarbset_book.specs.Mirror.{read_book};
 ghost use Rattle.mqarbset_list.specs.Records.{record_of, records_of, records_outcome};
 
 use bookings::Booking;
-use classbook::Book;
+use classbook::{Book, List};
+use mqarbset_book::MqBook;
 use refusals::Refusal;
 
 // A booking as a record.
@@ -36,12 +39,19 @@ fn put_all(out: &mut [u8], row: &[Booking])
     }
 }
 
-// Lists a seat's bookings into lent memory, eight bytes each. Refusals: 11, 12, 13, 14.
-pub fn list(b: &Book, seat: u32, out: &mut [u8]) -> Result<u32, Refusal>
-    ensures { said result leaving out.new ≡ records_outcome b.now seat out.old }
+// The list by value, of the book that a caller's bytes say.
+fn list_said(b: &MqBook, seat: u32) -> Result<List, Refusal>
+    ensures { said_list result ≡ list_answer (read_book b.now) seat }
+{
+    classbook::list_seat(&Book::from(b), seat)
+}
+
+// Lists a seat's bookings into lent memory, eight bytes each. Where that is too short, the book's bytes are not read. Refusals: 11, 12, 13, 14.
+pub fn list(b: &MqBook, seat: u32, out: &mut [u8]) -> Result<u32, Refusal>
+    ensures { said result leaving out.new ≡ records_outcome (read_book b.now) seat out.old }
 {
     Refusal::ShortMemory.when(out.len() < 320)?;
-    let l = classbook::list_seat(b, seat)?;
+    let l = list_said(b, seat)?;
     let row = &l.row[..l.count as usize];
     put_all(out, row);
     Ok(l.count)

@@ -40,20 +40,20 @@ pub fn fill(length: usize, per: usize, half: usize, settings: &[u8], out: &mut [
 }
 
 // How many bits of two runs of one length are 1. Both in one loop: a run has few bits, and a loop for each costs more than its turns.
-fn ones(one: &[u8], other: &[u8]) -> usize
+fn ones(one: &[u8], other: &[u8]) -> u32
     requires { (length one.now ≤ 255) × (length other.now ≡ length one.now) }
     ensures { result ≡ ones_from one.now 0 (length one.now) + ones_from other.now 0 (length one.now) }
 {
     let mut sum = 0;
     for (j, bit) in one.iter().enumerate() {
-        sum += usize::from(as_bit(*bit)) + usize::from(as_bit(other[j]));
+        sum += u32::from(as_bit(*bit) + as_bit(other[j]));
     }
     sum
 }
 
 // What a number of ones among so many bits says: off, on, or torn.
 #[tactic(auto, unfolding(crate::specs::Bits::heard))]
-fn reading(ones: usize, count: usize) -> u8
+fn reading(ones: u32, count: u32) -> u8
     ensures { result ≡ heard ones count }
 {
     if ones == 0 {
@@ -75,6 +75,6 @@ pub fn scan(length: usize, per: usize, half: usize, bits: &[u8], out: &mut [u8])
         let first = q * length;
         let second = half + 4 + first;
         let ones = ones(&bits[first..first + length], &bits[second..second + length]);
-        out[q] = reading(ones, 2 * length);
+        out[q] = reading(ones, 2 * length as u32);
     }
 }

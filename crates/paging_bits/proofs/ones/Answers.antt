@@ -11,8 +11,14 @@ pub loop-j-init : goal.loop-j-init
 unfolding ones_from
 loop-j-init c = refl
 
-pub overflow_add-sum-in-loop-j : goal.overflow_add-sum-in-loop-j
-overflow_add-sum-in-loop-j c =
+pub overflow_add-as_bit : goal.overflow_add-as_bit
+overflow_add-as_bit c =
+    let a = c.args in
+    let j = c.loop-j.j in
+    omega (arith, as_bit_most (get_or a.one.now j 0), as_bit_most (get_or a.other.now j 0))
+
+pub overflow_add-sum : goal.overflow_add-sum
+overflow_add-sum c =
     let a = c.args in
     let j = c.loop-j.j in
     omega (arith, ones_most a.one.now 0 j, ones_most a.other.now 0 j, as_bit_most (get_or a.one.now j 0), as_bit_most (get_or a.other.now j 0))

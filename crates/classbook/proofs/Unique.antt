@@ -19,6 +19,7 @@ use Rattle.classbook.proofs.cancel_code.Reads as cancel-code
 use Rattle.classbook.proofs.close_seat.Reads as close-seat
 use Rattle.classbook.proofs.seat_asked.Reads as seat-asked
 use Rattle.classbook.proofs.list_seat.Reads as list-seat
+use Rattle.classbook.proofs.seat_named.Reads as seat-named
 
 -- two results with the same number are the same, and so are the books that they leave
 once : (r r' : Result Unit Refusal) (b b' : Book) → said_book r b ≡ said_book r' b' → (r ≡ r') × (b ≡ b')
@@ -84,6 +85,12 @@ seat_asked_asks_nothing κs a = tt
 
 pub seat_asked_unique : (κs : _) (a : _) (r r' : _) (s s' : _) → seat-asked.Post κs a r s → seat-asked.Post κs a r' s' → r ≡ r'
 seat_asked_unique κs a r r' s s' p q = seat_once a.0.now a.1.0 r r' (p ∙ sym q)
+
+pub seat_named_asks_nothing : (κs : _) (a : _) → seat-named.Pre κs a
+seat_named_asks_nothing κs a = tt
+
+pub seat_named_unique : (κs : _) (a : _) (r r' : _) (s s' : _) → seat-named.Post κs a r s → seat-named.Post κs a r' s' → r ≡ r'
+seat_named_unique κs a r r' s s' p q = p ∙ sym q
 
 pub list_seat_asks_nothing : (κs : _) (a : _) → list-seat.Pre κs a
 list_seat_asks_nothing κs a = tt

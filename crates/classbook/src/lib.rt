@@ -6,7 +6,7 @@ mod walk;
 
 ghost use Rattle.std.specs.Prelude.{◌≡◌, ◌≤◌, ◌<◌};
 ghost use Rattle.bookings.specs.Bookings.{form_of};
-ghost use Rattle.classbook.specs.Book.{empty_book, with_seat, book_ok};
+ghost use Rattle.classbook.specs.Book.{empty_book, seat_of, with_seat, book_ok};
 ghost use Rattle.classbook.specs.Calls.{long_count, short_count, said_book, open_answer, as_booking, book_answer, cancel_answer, close_answer, said_seat, seat_answer, said_list, list_answer};
 ghost use Rattle.classbook.specs.Inside.{booking_answer};
 
@@ -55,6 +55,18 @@ pub fn book_ok(b: &Book) -> bool
     ensures { result ≡ book_ok b.now }
 {
     walk::check(b, 0).ok
+}
+
+// The seat of a number, whether or not it meets its conditions; above 15 a closed one. No call of document 01: what a call shows of a seat is `seat_asked`.
+#[tactic(auto, unfolding(crate::specs::Book::seat_of))]
+pub fn seat_named(b: &Book, seat: u32) -> Seat
+    ensures { result ≡ seat_of b.now seat }
+{
+    if seat < 16 {
+        b.seats[seat as usize]
+    } else {
+        seats::closed_seat()
+    }
 }
 
 // Another seat in the place of this one.

@@ -25,10 +25,6 @@ pub fn check(b: &Book, seat: u32) -> Found
     Found {
         ok: t.ok & (t.used <= 80),
         used: t.used,
-        seat: if seat < 16 {
-            b.seats[seat as usize]
-        } else {
-            seats::closed_seat()
-        },
+        seat: crate::seat_named(b, seat),
     }
 }

@@ -77,17 +77,21 @@ module _ (kinds text : List ℕ) (i to : ℕ) where
     pub fits_off : (w : Bool) → m ≡ None → fits (drop i kinds) (drop to text) ≡ w → w ≡ false
     fits_off w e inv = sym inv ∙ fits_split ∙ ap (λ (x : Option ℕ). is_some x && fits (drop (i + 1) kinds) (drop next text)) e
 
-    pub values_on : (x : ℕ) (v v' w : List ℕ) → m ≡ Some x → v' ≡ set v i x → values_from i (drop i kinds) (drop to text) v ≡ w
+    pub values_any : (v v' w : List ℕ) → v' ≡ set v i (unwrap_or m 0) → values_from i (drop i kinds) (drop to text) v ≡ w
         → values_from (i + 1) (drop (i + 1) kinds) (drop next text) v' ≡ w
     unfolding values_from
-    values_on x v v' w is e inv =
+    values_any v v' w e inv =
         let split : values_from i (drop i kinds) (drop to text) v ≡ values_from (suc i) (drop (suc i) kinds) (rest_of (drop to text)) (set v i (unwrap_or m 0)) =
         ap (λ (l : List ℕ). values_from i l (drop to text) v) (drop-cons kinds i 0 h)
         ∙ ap (λ (x : Option ℕ). values_from (suc i) (drop (suc i) kinds) (rest_of (drop to text)) (set v i (unwrap_or x 0))) known in
         ap (λ (k : ℕ). values_from k (drop k kinds) (drop next text) v') (add-one i)
         ∙ ap (λ (l : List ℕ). values_from (suc i) (drop (suc i) kinds) l v') rest
-        ∙ ap (λ (l : List ℕ). values_from (suc i) (drop (suc i) kinds) (rest_of (drop to text)) l) (e ∙ ap (λ (o : Option ℕ). set v i (unwrap_or o 0)) (sym is))
+        ∙ ap (λ (l : List ℕ). values_from (suc i) (drop (suc i) kinds) (rest_of (drop to text)) l) e
         ∙ sym split ∙ inv
+
+    pub values_on : (x : ℕ) (v v' w : List ℕ) → m ≡ Some x → v' ≡ set v i x → values_from i (drop i kinds) (drop to text) v ≡ w
+        → values_from (i + 1) (drop (i + 1) kinds) (drop next text) v' ≡ w
+    values_on x v v' w is e inv = values_any v v' w (e ∙ ap (λ (o : Option ℕ). set v i (unwrap_or o 0)) (sym is)) inv
 
   -- all kinds are passed
   module _ (h : length kinds ≤ i) where

@@ -26,7 +26,7 @@ module _ (p : ℕ → Bool) (l : List ℕ) (i : ℕ) (h : i ≤ length l) (r : O
   whole : from_on i l ≡ drop i l
   whole = take_all (length l - i) (drop i l) (omega (arith, length-drop i l))
 
-  passed : until p (from_on i l) ≡ unwrap_or r (length (from_on i l))
+  pub passed : until p (from_on i l) ≡ unwrap_or r (length (from_on i l))
   unfolding until
   passed =
       index_from_first (until p) (λ x. p x ≡ true) (λ x. p x ≡ false) refl (λ x m e. ap (λ (b : Bool). cond b 0 (suc (until p m))) e)

@@ -114,6 +114,21 @@ impl From<[u32; 9]> for Values {
     }
 }
 
+// What the words behind a call's name stand for, whether or not they are those that the call wants: 0 for a word that is not what is expected. `read` says it of a line that fits.
+pub fn values_in(text: &[u8], kinds: &[u8]) -> Values
+    ensures { result ≡ values_of kinds.now text.now }
+{
+    let mut places = [0; 9];
+    let mut to = 0;
+    for (i, &kind) in kinds.iter().enumerate() {
+        let w = words::word(text, to);
+        to = w.to;
+        let value = meant(&text[w.from..w.to], kind).unwrap_or(0);
+        store(&mut places, i, value);
+    }
+    Values::from(places)
+}
+
 // The words of a line, where they are those that a call wants: what each stands for, and where the last of them stands.
 #[derive(Clone, Copy)]
 pub struct Line {

@@ -144,3 +144,12 @@ pub fn handed_back(b: MqBook, r: Result<(), Refusal>, made: &Book) -> MqBookAnsw
         },
     }
 }
+
+// The same by the refusal's number, or 0, whatever number that is. `handed_back` does not go through it: its bytes would be copied once more.
+#[tactic(auto, unfolding(crate::specs::Calls::handed_back, refusals::specs::Refusals::after), using(refusals::proofs::First::after_refused))]
+pub fn handed_back_by_number(b: MqBook, refusal: u32, made: &Book) -> MqBookAnswer
+    ensures { result ≡ handed_back b (record { refusal = refusal; book = made.now }) }
+{
+    let book = if refusal == 0 { MqBook::from(made) } else { b };
+    MqBookAnswer { refusal, book }
+}

@@ -1,18 +1,18 @@
 -- `classbook::walk::check` meets its contract: the seats passed meet their conditions, what was summed and what is left to sum make the common room, and the seat is the one that is named.
 -- Assumes nothing.
-use mathlib.Core.Path.{◌≡◌, refl, sym, ap, ◌∙◌}
+use mathlib.Core.Path.{◌≡◌, refl, ap, ◌∙◌}
 use mathlib.Core.Bool.{Bool, ◌&&◌}
 use Prim.Native.Nat.{ℕ, ◌+◌}
 use native.Mathlib.Nat.{zero-add}
 use native.Mathlib.Omega.{arith}
 use lib.Dec.{leb}
-use lib.ListN.{length, take, drop, get_or-eq_default}
+use lib.ListN.{length, take, drop}
 use lib.Seq.{take_all}
 use Rattle.laws.specs.Lists.{every, total}
-use Rattle.laws.proofs.Rows.{turn, ended, turn_sum, ended_sum, get_d_any}
-use Rattle.seats.specs.Seats.{closed, seat_ok}
+use Rattle.laws.proofs.Rows.{turn, ended, turn_sum, ended_sum}
+use Rattle.seats.specs.Seats.{seat_ok}
 use Rattle.classbook.specs.declared.Book.{Book}
-use Rattle.classbook.specs.Book.{beyond, common, book_ok, seat_of}
+use Rattle.classbook.specs.Book.{beyond, common, book_ok}
 use Rattle.classbook.proofs.walk.check.Goals as goal
 
 as-defined : (b : Book) (ok : Bool) (used : ℕ) → ok ≡ every seat_ok b.seats → used ≡ total beyond b.seats → ((ok && leb used 80) ≡ book_ok b) × (used ≡ common b)
@@ -39,20 +39,11 @@ loop-s-preserved c =
           ∙ turn_sum seats 16 l.s-index beyond _ l.t.used _ _ (omega arith) (omega arith) l.invariant.2 refl,
     )
 
-pub returns-then-seat-lt16 : goal.returns-then-seat-lt16
-unfolding every seat_of
-returns-then-seat-lt16 c =
+pub returns : goal.returns
+unfolding every
+returns c =
     let l = c.loop-s in
     let h : length c.args.b.now.seats ≡ 16 = omega arith in
     let e = as-defined c.args.b.now l.t.ok l.t.used (ended c.args.b.now.seats 16 l.s-index (every seat_ok) refl l.t.ok _ (omega arith) l.invariant.0)
     (ended_sum c.args.b.now.seats 16 l.s-index beyond l.t.used _ (omega arith) l.invariant.2) in
-    (e.0, e.1, get_d_any c.args.b.now.seats c.args.seat _ closed (omega arith))
-
-pub returns-else-seat-lt16 : goal.returns-else-seat-lt16
-unfolding every seat_of
-returns-else-seat-lt16 c =
-    let l = c.loop-s in
-    let h : length c.args.b.now.seats ≡ 16 = omega arith in
-    let e = as-defined c.args.b.now l.t.ok l.t.used (ended c.args.b.now.seats 16 l.s-index (every seat_ok) refl l.t.ok _ (omega arith) l.invariant.0)
-    (ended_sum c.args.b.now.seats 16 l.s-index beyond l.t.used _ (omega arith) l.invariant.2) in
-    (e.0, e.1, c.closed_seat.ensures ∙ sym (get_or-eq_default c.args.b.now.seats closed {n = c.args.seat} (omega arith)))
+    (e.0, e.1, c.seat_named.ensures)

@@ -37,6 +37,7 @@ use Rattle.listing.specs.Listing.{list_outcome}
 use Rattle.listing.proofs.Answered.{refused_list, given_list}
 use Rattle.listing.specs.contracts.list as list
 use Rattle.summaries.specs.declared.Glance.{Glance}
+use Rattle.summaries.proofs.Said.{said_whole}
 use Rattle.summaries.proofs.summary.Reads as summary
 use Rattle.demand.specs.Lesson.{Call, opens, books, cancels, closes, lists, glances}
 use Rattle.demand.specs.Lesson.{Reply, number, listed, summed, reply, next, run_through, Line, log, turns}
@@ -107,7 +108,7 @@ module _ {M : Type 1} {𝓤 : Ura M} (𝓛 : Logic 𝓤) (mem : Memory → SProp
 pub summary_promised : (b : Bor Book) (seat timeslot : ℕ) (r : Result Glance Refusal) (κs s : _) → summary.Post κs (b, (seat, (timeslot, tt))) r s
     → Says b.now seat (glances timeslot) (summed (said r)) b.now
 unfolding reply next
-summary_promised b seat timeslot r κs s p = record { replies = ap summed (sym p); leaves = refl }
+summary_promised b seat timeslot r κs s p = record { replies = ap summed (sym p ∙ said_whole r); leaves = refl }
 
 -- ---- the list by value: written into records, of which there are enough, it is the lesson's list
 

@@ -129,6 +129,7 @@ pub fn mq_list_bytes(b: MqBook, seat: u32, out: &mut [u8]) -> MqAnswer
 
 // Which codes of a timeslot a seat has free: the leaves that its bookings cover, leaf l being bit 2^l, their direction (0 up, 1 down, 2 none) and their number.
 // Refusals: 5, 12, 13, 14.
+#[tactic(auto, using(summaries::proofs::Said::said_whole))]
 pub fn mq_summary_value(b: MqBook, seat: u32, timeslot: u32) -> MqSummary
     ensures { result ≡ summary_as_c (summary_answer (read_book b) seat timeslot) }
 {

@@ -1,2 +1,3 @@
 pub mod Answered
+pub mod Said
 pub mod Unique

@@ -19,6 +19,10 @@ summary_refusals b seat timeslot = (5, bad_timeslot timeslot) ∷ seat_refusals 
 unfoldable pub glance_of : Slot → Glance
 glance_of s = record { leaves = s.leaves; way = s.way; count = s.count }
 
+-- and what a reply says: each of the three
+unfoldable pub glance_said : Glance → Glance
+glance_said g = record { leaves = g.leaves; way = g.way; count = g.count }
+
 -- "It must equal what the bookings themselves say": refused, or that, of the seat and timeslot that are named
 unfoldable pub summary_answer : Book → ℕ → ℕ → Answer Glance
 summary_answer b seat timeslot = answer (first_of (summary_refusals b seat timeslot)) (glance_of (slot_of timeslot (bookings (seat_of b seat))))

@@ -2,8 +2,8 @@
 #![tactic(auto)]
 
 ghost use Rattle.std.specs.Prelude.{◌≡◌};
-ghost use Rattle.refusals.specs.Refusals.{said};
-ghost use Rattle.summaries.specs.Summaries.{glance_of, summary_answer};
+ghost use Rattle.refusals.specs.Refusals.{said_as};
+ghost use Rattle.summaries.specs.Summaries.{glance_of, glance_said, summary_answer};
 
 use classbook::Book;
 use conditions::Direction;
@@ -35,7 +35,7 @@ impl From<Slot> for Glance {
 // Which codes of a timeslot a seat has free. Refusals: 5, 12, 13, 14.
 #[tactic(auto, unfolding(conditions::specs::Conditions::bad_timeslot))]
 pub fn summary(b: &Book, seat: u32, timeslot: u32) -> Result<Glance, Refusal>
-    ensures { said result ≡ summary_answer b.now seat timeslot }
+    ensures { said_as glance_said result ≡ summary_answer b.now seat timeslot }
 {
     Refusal::Timeslot.when(conditions::bad_timeslot(timeslot))?;
     let s = classbook::seat_asked(b, seat)?;

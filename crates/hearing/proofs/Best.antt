@@ -50,7 +50,7 @@ module _ (may : ℕ → Bool) (heard : ℕ → ℕ) (u who : ℕ) (so_far : who 
   not_permitted p = so_far ∙ sym (step false _ (ap may (sym (add-one u)) ∙ p) refl)
 
 -- ---- a user's sums: as they are defined, within what `squared` asks of them, and how loud they are
-sums_of_lem : (re im signs : List Float) (burst user : ℕ) → 1 ≤ user → sums_at re im signs burst user ≡ sums_in re im signs burst user
+pub sums_of_lem : (re im signs : List Float) (burst user : ℕ) → 1 ≤ user → sums_at re im signs burst user ≡ sums_in re im signs burst user
 unfolding sums_at
 sums_of_lem re im signs burst zero known = absurd (omega arith)
 sums_of_lem re im signs burst (suc k) known = refl
@@ -75,11 +75,11 @@ module _ (re im signs : List Float) (burst user by chips : ℕ) (known : 1 ≤ u
   as_sums : s ≡ sums_of (sums_in re im signs burst user)
   as_sums = e ∙ ap sums_of sums_at_lem
 
-  real_is : s.re ≡ of_int binary32 (sums_in re im signs burst user).0
+  pub real_is : s.re ≡ of_int binary32 (sums_in re im signs burst user).0
   unfolding sums_of
   real_is = ap (λ (x : Sums). x.re) as_sums
 
-  imaginary_is : s.im ≡ of_int binary32 (sums_in re im signs burst user).1
+  pub imaginary_is : s.im ≡ of_int binary32 (sums_in re im signs burst user).1
   unfolding sums_of
   imaginary_is = ap (λ (x : Sums). x.im) as_sums
 

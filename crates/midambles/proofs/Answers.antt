@@ -65,7 +65,7 @@ module _ (burst cell user by : ℕ) (s : by ≡ shift_of (code_of burst) user) w
   unfolding chip_of
   chip_of_lem i = ap (λ (k : ℕ). element (code_of burst).period (get_or (rows_of burst) cell []) (i + k)) s
 
-  chips_of_lem : run at_place (code_of burst).length ≡ chips_of cell burst user
+  pub chips_of_lem : run at_place (code_of burst).length ≡ chips_of cell burst user
   unfolding chips_of
   chips_of_lem = run_same _ _ (code_of burst).length (λ i h. chip_of_lem i)
 
